@@ -1,0 +1,6 @@
+-- Laws that every floor cites; no domain.
+pub mod Choice
+pub mod Deciding
+pub mod Numbers
+pub mod Places
+pub mod Rest

@@ -1,0 +1,2 @@
+-- Rolling inside a page.
+pub mod Rolling

@@ -1,0 +1,199 @@
+// The vocabulary of document 01: events, records, the board, the two lines, replies and answers, with the paper's number for each case.
+ghost use mathlib.Core.Path.{_≡_};
+ghost use Rattle.law.specs.Deciding.{Decides};
+ghost use Rattle.record.specs.Answers.{answerNumber};
+ghost use Rattle.record.specs.Replies.{replyKind, replyValue, replyMask, matchNumber};
+ghost use Rattle.record.specs.Skeletons.{skeletonNumbers};
+use law::Numbers;
+
+// Channel F. A byte goes each way: SI, then SO.
+pub enum FlashEvent {
+    Select,
+    Byte(u8, u8),
+    Cut,
+    Deselect,
+    End,
+}
+
+// Channel E. A byte comes with its acknowledge bit: true is 1, not acknowledged.
+pub enum EepromEvent {
+    Start,
+    Byte(u8, bool),
+    Cut,
+    Stop,
+    End,
+}
+
+// Channel L.
+pub enum LineEvent {
+    SupplyOn,
+    SupplyOff,
+    LockOn,
+    LockOff,
+}
+
+pub enum Event {
+    Flash(FlashEvent),
+    Eeprom(EepromEvent),
+    Line(LineEvent),
+}
+
+pub struct Record {
+    pub stamp: u32,
+    pub event: Event,
+}
+
+// Line 1 of a trace: the flash's status at the start, the watched sector, the EEPROM's wired address.
+pub struct Board {
+    pub status: u8,
+    pub sector: u8,
+    pub address: u8,
+}
+
+// The common supply and the lock net.
+pub struct Lines {
+    pub supply: bool,
+    pub lock: bool,
+}
+
+// A chip's reply as far as its control knows it: a fetched byte is only told by its place.
+pub enum Skeleton {
+    Silent,
+    Given(u8),
+    Fetch(u32),
+    Ack,
+    NoAck,
+    Starts,
+    Ends,
+    NoCycle,
+}
+
+// A record's reply. A byte has a value and a mask of its doubtful bits.
+pub enum Reply {
+    NotPlayed,
+    Silent,
+    Byte(u8, u8),
+    Ack,
+    NoAck,
+    Starts,
+    Ends,
+    NoCycle,
+}
+
+// How a reply compares with what was recorded.
+pub enum Match {
+    Nothing,
+    Agrees,
+    Disagrees,
+}
+
+// What a replay answers.
+pub enum Answer {
+    Settled,
+    BadBuffers,
+    TooLong,
+    BadLine,
+    BackInTime,
+    Impossible,
+    Crowded,
+    OrdersDiffer,
+    StatusLost,
+}
+
+// The paper's number of an answer.
+pub fn answer_number(a: Answer) -> u32
+    ensures { λ r. ⌜ r ≡ answerNumber a ⌝ }
+{
+    match a {
+        Answer::Settled => 0,
+        Answer::BadBuffers => 1,
+        Answer::TooLong => 2,
+        Answer::BadLine => 3,
+        Answer::BackInTime => 4,
+        Answer::Impossible => 5,
+        Answer::Crowded => 6,
+        Answer::OrdersDiffer => 7,
+        Answer::StatusLost => 8,
+    }
+}
+
+// The first of a reply's four bytes.
+pub fn reply_kind(r: Reply) -> u8
+    ensures { λ k. ⌜ k ≡ replyKind r ⌝ }
+{
+    match r {
+        Reply::NotPlayed => 0,
+        Reply::Silent => 1,
+        Reply::Byte(_, _) => 2,
+        Reply::Ack => 3,
+        Reply::NoAck => 4,
+        Reply::Starts => 5,
+        Reply::Ends => 6,
+        Reply::NoCycle => 7,
+    }
+}
+
+// The second: 0 for other kinds than 2.
+pub fn reply_value(r: Reply) -> u8
+    ensures { λ v. ⌜ v ≡ replyValue r ⌝ }
+{
+    match r {
+        Reply::NotPlayed => 0,
+        Reply::Silent => 0,
+        Reply::Byte(value, _) => value,
+        Reply::Ack => 0,
+        Reply::NoAck => 0,
+        Reply::Starts => 0,
+        Reply::Ends => 0,
+        Reply::NoCycle => 0,
+    }
+}
+
+// The third: 0 for other kinds than 2.
+pub fn reply_mask(r: Reply) -> u8
+    ensures { λ m. ⌜ m ≡ replyMask r ⌝ }
+{
+    match r {
+        Reply::NotPlayed => 0,
+        Reply::Silent => 0,
+        Reply::Byte(_, mask) => mask,
+        Reply::Ack => 0,
+        Reply::NoAck => 0,
+        Reply::Starts => 0,
+        Reply::Ends => 0,
+        Reply::NoCycle => 0,
+    }
+}
+
+// The fourth.
+pub fn match_number(m: Match) -> u8
+    ensures { λ n. ⌜ n ≡ matchNumber m ⌝ }
+{
+    match m {
+        Match::Nothing => 0,
+        Match::Agrees => 1,
+        Match::Disagrees => 2,
+    }
+}
+
+fn skeleton_numbers(s: Skeleton) -> Numbers
+    ensures { λ r. ⌜ r ≡ skeletonNumbers s ⌝ }
+{
+    match s {
+        Skeleton::Silent => law::numbers_of(0, 0, 0, 0, 0),
+        Skeleton::Given(b) => law::numbers_of(1, b as u32, 0, 0, 0),
+        Skeleton::Fetch(p) => law::numbers_of(2, p, 0, 0, 0),
+        Skeleton::Ack => law::numbers_of(3, 0, 0, 0, 0),
+        Skeleton::NoAck => law::numbers_of(4, 0, 0, 0, 0),
+        Skeleton::Starts => law::numbers_of(5, 0, 0, 0, 0),
+        Skeleton::Ends => law::numbers_of(6, 0, 0, 0, 0),
+        Skeleton::NoCycle => law::numbers_of(7, 0, 0, 0, 0),
+    }
+}
+
+// Whether two skeleton replies are the same.
+pub fn same_skeleton(s: Skeleton, t: Skeleton) -> bool
+    ensures { λ r. ⌜ Decides r (s ≡ t) ⌝ }
+{
+    law::same_numbers(skeleton_numbers(s), skeleton_numbers(t))
+}
