@@ -2,3 +2,4 @@
 pub mod Answers
 pub mod Replies
 pub mod Skeletons
+pub mod LineRules

@@ -4,6 +4,7 @@ ghost use Rattle.law.specs.Deciding.{Decides};
 ghost use Rattle.record.specs.Answers.{answerNumber};
 ghost use Rattle.record.specs.Replies.{replyKind, replyValue, replyMask, matchNumber};
 ghost use Rattle.record.specs.Skeletons.{skeletonNumbers};
+ghost use Rattle.record.specs.LineRules.{linesAfter, linesAtStart};
 use law::Numbers;
 
 // Channel F. A byte goes each way: SI, then SO.
@@ -85,6 +86,40 @@ pub enum Match {
     Nothing,
     Agrees,
     Disagrees,
+}
+
+// At the start the supply is on and the lock off.
+pub fn lines_at_start() -> Lines
+    ensures { λ r. ⌜ r ≡ linesAtStart ⌝ }
+{
+    Lines {
+        supply: true,
+        lock: false,
+    }
+}
+
+// The lines after a line record.
+pub fn lines_after(lines: Lines, e: LineEvent) -> Lines
+    ensures { λ r. ⌜ r ≡ linesAfter lines e ⌝ }
+{
+    match e {
+        LineEvent::SupplyOn => Lines {
+            supply: true,
+            lock: lines.lock,
+        },
+        LineEvent::SupplyOff => Lines {
+            supply: false,
+            lock: lines.lock,
+        },
+        LineEvent::LockOn => Lines {
+            supply: lines.supply,
+            lock: true,
+        },
+        LineEvent::LockOff => Lines {
+            supply: lines.supply,
+            lock: false,
+        },
+    }
 }
 
 // What a replay answers.
