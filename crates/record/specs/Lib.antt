@@ -3,3 +3,4 @@ pub mod Answers
 pub mod Replies
 pub mod Skeletons
 pub mod LineRules
+pub mod Told

@@ -1,0 +1,6 @@
+-- Records that share a stamp.
+pub mod Orders
+pub mod Control
+pub mod Images
+pub mod Joint
+pub mod OneBoard
