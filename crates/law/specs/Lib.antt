@@ -4,3 +4,4 @@ pub mod Deciding
 pub mod Numbers
 pub mod Places
 pub mod Rest
+pub mod Stretch

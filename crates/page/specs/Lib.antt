@@ -1,2 +1,3 @@
 -- Rolling inside a page.
 pub mod Rolling
+pub mod Laws

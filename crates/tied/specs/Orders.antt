@@ -1,6 +1,6 @@
 -- The orders of two lists of records, and what one order gives.
 use mathlib.Core.Path.{_≡_, refl, sym, ap, ap₂, _∙_}
-use mathlib.Core.List.{List, [], _∷_, head-eq-of-cons-eq, tail-eq-of-cons-eq}
+use mathlib.Core.List.{List, [], _∷_, map, head-eq-of-cons-eq, tail-eq-of-cons-eq}
 
 -- an order of a list of bus records and a list of line records, each list in its own order:
 -- at each place either the next bus record or the next line record comes first
@@ -114,3 +114,23 @@ module _ {S B L R : Type 0} (bus : S → B → S) (reply : S → B → R) (line 
 
     pub agree-rest : (bs : List B) (ls : List L) → reply s b ≡ r → Agree bs ls (bus s b) f w → AgreeBus b bs ls s f (r ∷ w)
     agree-rest bs ls e h o = (h o .0, ap₂ _∷_ e (h o .1))
+
+-- replies seen through a function
+module _ {S B L R Q : Type 0} (bus : S → B → S) (reply : S → B → R) (line : S → L → S) (see : R → Q) where
+  replies-seen : {bs : List B} {ls : List L} (o : Order B L bs ls) (s : S) → replies bus (λ t b. see (reply t b)) line o s ≡ map see (replies bus reply line o s)
+  unfolding replies
+  replies-seen done s = refl
+  replies-seen (busFirst {b = b} o) s = ap (λ (l : List Q). see (reply s b) ∷ l) (replies-seen o (bus s b))
+  replies-seen (lineFirst {l = l} o) s = replies-seen o (line s l)
+
+  after-seen : {bs : List B} {ls : List L} (o : Order B L bs ls) (s : S) → after bus (λ t b. see (reply t b)) line o s ≡ after bus reply line o s
+  unfolding after
+  after-seen done s = refl
+  after-seen (busFirst {b = b} o) s = after-seen o (bus s b)
+  after-seen (lineFirst {l = l} o) s = after-seen o (line s l)
+
+  pub any-two-seen : (bs : List B) (ls : List L) (s : S) → AnyTwo bus reply line bs ls s → AnyTwo bus (λ t b. see (reply t b)) line bs ls s
+  any-two-seen bs ls s h o p = (
+    after-seen o s ∙ h o p .0 ∙ sym (after-seen p s),
+    replies-seen o s ∙ ap (map see) (h o p .1) ∙ sym (replies-seen p s),
+  )

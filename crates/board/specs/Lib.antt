@@ -1,0 +1,2 @@
+-- The board: both chips and the two lines.
+pub mod Play

@@ -1,0 +1,29 @@
+-- The result's length, and a run of stores over the whole of it. Assumes nothing.
+use mathlib.Core.Path.{_≡_, refl, ap, _∙_}
+use mathlib.Core.List.{List, _++_, append-nil}
+use Prim.Native.Nat.{ℕ, _+_}
+use native.Mathlib.Omega.{arith}
+use borrow.Author.Tests.{eq-eqb}
+use lib.ListN.{length, drop-of-length-le}
+use lib.Seq.{sets, sets-eq}
+use Rattle.buffers.specs.Buffers.{resultLength, word, resultBytes, resultAfter}
+
+pub length-resultBytes : (answer number count : ℕ) → length (resultBytes answer number count) ≡ resultLength
+unfolding resultBytes
+length-resultBytes answer number count = refl
+
+all-set : (vs l : List ℕ) → length l ≡ length vs → sets l 0 vs ≡ vs
+all-set vs l e =
+    sets-eq vs l 0 (omega arith)
+    ∙ ap (λ (r : List ℕ). vs ++ r) (drop-of-length-le l {i = 0 + length vs} (omega arith)) ∙ append-nil vs
+
+-- a result of the right length is written whole
+pub result-written : (answer number count : ℕ) (old : List ℕ) → length old ≡ resultLength → resultAfter answer number count old ≡ resultBytes answer number count
+unfolding resultAfter
+result-written answer number count old e = simp (eq-eqb _ _ e)
+
+-- three numbers, one after the other
+pub three-words : (answer number count : ℕ) (old : List ℕ) → length old ≡ resultLength
+    → sets (sets (sets old 0 (word answer)) 4 (word number)) 8 (word count) ≡ resultAfter answer number count old
+unfolding resultAfter resultBytes
+three-words answer number count old e = all-set (resultBytes answer number count) old e ∙ simp (eq-eqb _ _ e)

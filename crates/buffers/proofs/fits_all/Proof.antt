@@ -1,0 +1,96 @@
+-- `buffers::fits_all`: each ground of refusal 1 by the test that finds it. Assumes nothing.
+use mathlib.Core.Path.{sym, _∙_}
+use borrow.Author.Tests.{not-true, not-false}
+use Rattle.law.specs.Choice.{via}
+use Rattle.image.specs.Image.{imageOf}
+use Rattle.image.proofs.Fitting.{fits-values, fits-masks}
+use Rattle.buffers.specs.Buffers.{fit}
+use borrow.Author.Tests.{eq-eqb, ne-eqb}
+use borrow.Author.Needs.{needs}
+use Rattle.buffers.proofs.fits_all.Statement.{statement}
+use Rattle.buffers.proofs.fits_all.Tie as tie
+
+image-fits-requires : tie.Need-image-fits-requires
+image-fits-requires c κs = search needs
+
+returns : tie.Need-returns
+unfolding fit
+returns c = rw (via (c .before .image-fits .ensures) (not-true _ (c .if1 .taken)))
+
+image-fits-requires-2 : tie.Need-image-fits-requires-2
+image-fits-requires-2 c κs = search needs
+
+returns-2 : tie.Need-returns-2
+unfolding fit
+returns-2 c = rw (via (c .before .before .before .image-fits .ensures) (not-false _ (c .before .before .if1 .left)), via (c .before .image-fits2 .ensures) (not-true _ (c .if2 .taken)))
+
+returns-3 : tie.Need-returns-3
+unfolding fit
+returns-3 c =
+    rw (
+      via (c .before .before .before .before .image-fits .ensures) (not-false _ (c .before .before .before .if1 .left)),
+      via (c .before .before .image-fits2 .ensures) (not-false _ (c .before .if2 .left)),
+      ne-eqb _ _ (c .if3 .taken),
+    )
+
+returns-4 : tie.Need-returns-4
+unfolding fit
+returns-4 c =
+    rw (
+      via (c .before .before .before .before .before .image-fits .ensures) (not-false _ (c .before .before .before .before .if1 .left)),
+      via (c .before .before .before .image-fits2 .ensures) (not-false _ (c .before .before .if2 .left)),
+      eq-eqb _ _ (c .before .if3 .left),
+      ne-eqb _ _ (c .if4 .taken),
+    )
+
+is-clear-requires : tie.Need-is-clear-requires
+is-clear-requires c κs =
+    let a = c .before .before .before .before .before .before .before .before .before .before .before .before .args in
+    let i = imageOf (a .flash .now) (a .flash-mask .now) in
+    let t = via (c .before .before .before .before .before .image-fits .ensures) (not-false _ (c .before .before .before .before .if1 .left)) in
+    fits-masks i t ∙ sym (fits-values i t)
+
+returns-5 : tie.Need-returns-5
+unfolding fit
+returns-5 c =
+    rw (
+      via (c .before .before .before .before .before .before .before .image-fits .ensures) (not-false _ (c .before .before .before .before .before .before .if1 .left)),
+      via (c .before .before .before .before .before .image-fits2 .ensures) (not-false _ (c .before .before .before .before .if2 .left)),
+      eq-eqb _ _ (c .before .before .before .if3 .left),
+      eq-eqb _ _ (c .before .before .if4 .left),
+      via (c .before .is-clear .ensures) (not-true _ (c .if5 .taken)),
+    )
+
+is-clear-requires-2 : tie.Need-is-clear-requires-2
+is-clear-requires-2 c κs =
+    let a = c .before .before .before .before .before .before .before .before .before .before .before .before .before .before .args in
+    let i = imageOf (a .eeprom .now) (a .eeprom-mask .now) in
+    let t = via (c .before .before .before .before .before .image-fits2 .ensures) (not-false _ (c .before .before .before .before .if2 .left)) in
+    fits-masks i t ∙ sym (fits-values i t)
+
+returns-6 : tie.Need-returns-6
+unfolding fit
+returns-6 c =
+    c .is-clear2 .ensures
+    ∙ rw (
+      via (c .before .before .before .before .before .before .before .before .image-fits .ensures) (not-false _ (c .before .before .before .before .before .before .before .if1 .left)),
+      via (c .before .before .before .before .before .before .image-fits2 .ensures) (not-false _ (c .before .before .before .before .before .if2 .left)),
+      eq-eqb _ _ (c .before .before .before .before .if3 .left),
+      eq-eqb _ _ (c .before .before .before .if4 .left),
+      via (c .before .before .is-clear .ensures) (not-false _ (c .before .if5 .left)),
+    )
+
+pub fits-all-spec : {M : Type 1} → statement M
+fits-all-spec =
+    tie.close
+    (tie.spec
+    image-fits-requires
+    returns
+    image-fits-requires-2
+    returns-2
+    returns-3
+    returns-4
+    is-clear-requires
+    returns-5
+    is-clear-requires-2
+    returns-6)

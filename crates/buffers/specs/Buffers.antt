@@ -1,0 +1,65 @@
+-- The lent buffers: when they fit, what the result holds, and how the replies stand (document 01, 'Replies and stopping').
+use Prim.Native.Nat.{ℕ, _*_, _/_, _%_}
+use mathlib.Core.Bool.{Bool, true, false}
+use mathlib.Core.List.{List, [], _∷_, _++_}
+use lib.Bits.{bitAnd}
+use lib.Dec.{eqb, ltb}
+use lib.ListN.{length}
+use lib.Seq.{sets}
+use Rattle.law.specs.Choice.{pick}
+use Rattle.image.specs.Image.{Image, imageOf, fits}
+
+-- what a replay changes: both images with their masks, the replies, the result
+pub record Buffers : Type 0 where
+  pub flash : Image
+  pub eeprom : Image
+  pub replies : List ℕ
+  pub result : List ℕ
+
+-- flash values, flash masks, EEPROM values, EEPROM masks, replies, result
+abbrev pub buffersOf : List ℕ → List ℕ → List ℕ → List ℕ → List ℕ → List ℕ → Buffers
+buffersOf fv fm ev em replies result =
+    record { flash = imageOf fv fm; eeprom = imageOf ev em; replies = replies; result = result }
+
+-- refusal 1: 'replies are not 40,000, result not 12'
+abbrev pub repliesLength : ℕ
+repliesLength = 40000
+
+abbrev pub resultLength : ℕ
+resultLength = 12
+
+-- refusal 1: 'a bit is set in both'. Here none is, place by place
+unfoldable pub clear : List ℕ → List ℕ → Bool
+clear [] ms = true
+clear (v ∷ vs) [] = true
+clear (v ∷ vs) (m ∷ ms) = pick (eqb (bitAnd v m) 0) (clear vs ms) false
+
+-- none of the grounds of refusal 1 holds: every length is right, and in each image no bit is set in both
+unfoldable pub fit : Buffers → Bool
+fit x =
+    pick (fits (x .flash))
+    (pick (fits (x .eeprom))
+    (pick (eqb (length (x .replies)) repliesLength)
+    (pick (eqb (length (x .result)) resultLength)
+    (pick (clear (x .flash .values) (x .flash .masks)) (clear (x .eeprom .values) (x .eeprom .masks)) false) false) false) false) false
+
+-- the result's numbers: 'four bytes each, low byte first'
+abbrev pub word : ℕ → List ℕ
+word a = (a % 256) ∷ (a / 256 % 256) ∷ (a / 65536 % 256) ∷ (a / 16777216 % 256) ∷ []
+
+-- 'answer, line or stamp, count'
+unfoldable pub resultBytes : ℕ → ℕ → ℕ → List ℕ
+resultBytes answer number count = word answer ++ (word number ++ word count)
+
+-- 'with a wrong length nothing is written there'
+unfoldable pub resultAfter : ℕ → ℕ → ℕ → List ℕ → List ℕ
+resultAfter answer number count old = pick (eqb (length old) resultLength) (resultBytes answer number count) old
+
+-- how many replies have a place: 'each record has four reply bytes', and repliesLength is all there is
+abbrev pub replyPlaces : ℕ
+replyPlaces = 10000
+
+-- the four bytes of record `number`, counted from 0, put at their place; one that has no place, and replies of another length, change nothing
+unfoldable pub repliesWith : ℕ → List ℕ → List ℕ → List ℕ
+repliesWith number four old =
+    pick (ltb number replyPlaces) (pick (eqb (length old) repliesLength) (sets old (4 * number) four) old) old

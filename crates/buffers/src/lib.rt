@@ -1,0 +1,146 @@
+// The lent buffers of a replay: whether they fit, and what is written to the result and to the replies.
+// A buffer of another length than document 01 gives it is left alone.
+ghost use mathlib.Core.Path.{_≡_};
+ghost use mathlib.Core.List.{[], _∷_};
+ghost use Prim.Native.Nat.{_+_, _≤_};
+ghost use lib.ListN.{length, replicate};
+ghost use lib.Seq.{sets};
+ghost use Rattle.record.specs.Replies.{replyBytes};
+ghost use Rattle.image.specs.Image.{imageOf, fits};
+ghost use Rattle.buffers.specs.Buffers.{buffersOf, clear, fit, word, resultAfter, repliesWith};
+use record::Match;
+use record::Reply;
+
+// How many bytes are kept of a chip.
+const KEPT: usize = 32768;
+
+// How many bytes the replies take, and the result.
+const REPLIES: usize = 40000;
+
+const RESULT: usize = 12;
+
+// How many replies have a place.
+const PLACES: usize = 10000;
+
+// None of the grounds of refusal 1 holds.
+pub fn fits_all(
+    flash: &[u8],
+    flash_mask: &[u8],
+    eeprom: &[u8],
+    eeprom_mask: &[u8],
+    replies: &[u8],
+    result: &[u8],
+) -> bool
+    ensures { λ r. ⌜ r ≡ fit (buffersOf (now (flash .entry)) (now («flash_mask» .entry)) (now (eeprom .entry)) (now («eeprom_mask» .entry)) (now (replies .entry)) (now (result .entry))) ⌝ }
+{
+    if !image_fits(flash, flash_mask) {
+        return false;
+    }
+    if !image_fits(eeprom, eeprom_mask) {
+        return false;
+    }
+    if replies.len() != REPLIES {
+        return false;
+    }
+    if result.len() != RESULT {
+        return false;
+    }
+    if !is_clear(flash, flash_mask) {
+        return false;
+    }
+    is_clear(eeprom, eeprom_mask)
+}
+
+// As many values and masks as bytes are kept.
+fn image_fits(values: &[u8], masks: &[u8]) -> bool
+    ensures { λ r. ⌜ r ≡ fits (imageOf (now (values .entry)) (now (masks .entry))) ⌝ }
+{
+    if values.len() != KEPT {
+        return false;
+    }
+    masks.len() == KEPT
+}
+
+// No bit is set in both.
+fn is_clear(values: &[u8], masks: &[u8]) -> bool
+    requires { ⌜ length (now masks) ≡ length (now values) ⌝ }
+    ensures { λ r. ⌜ r ≡ clear (now (values .entry)) (now (masks .entry)) ⌝ }
+{
+    let mut i = 0;
+    while i < values.len() {
+        if values[i] & masks[i] != 0 {
+            return false;
+        }
+        i += 1;
+    }
+    true
+}
+
+// The result: the answer's number, a line or a stamp, a count.
+pub fn put_result(result: &mut [u8], answer: u32, number: usize, count: u32)
+    ensures { λ _. ⌜ now (result .exit) ≡ resultAfter answer number count (now (result .entry)) ⌝ }
+{
+    if result.len() != RESULT {
+        return;
+    }
+    put_word(result, 0, answer as usize);
+    put_word(result, 4, number);
+    put_word(result, 8, count as usize);
+}
+
+// Nothing is replied yet.
+pub fn clear_replies(replies: &mut [u8])
+    ensures { λ _. ⌜ now (replies .exit) ≡ replicate (length (now (replies .entry))) 0 ⌝ }
+{
+    let mut i = 0;
+    while i < replies.len() {
+        replies[i] = 0;
+        i += 1;
+    }
+}
+
+// The reply of record `number`, counted from 0.
+pub fn put_reply(replies: &mut [u8], number: usize, reply: Reply, m: Match)
+    ensures { λ _. ⌜ now (replies .exit) ≡ repliesWith number (replyBytes reply m) (now (replies .entry)) ⌝ }
+{
+    if PLACES <= number {
+        return;
+    }
+    if replies.len() != REPLIES {
+        return;
+    }
+    put_four(
+        replies,
+        4 * number,
+        record::reply_kind(reply),
+        record::reply_value(reply),
+        record::reply_mask(reply),
+        record::match_number(m),
+    );
+}
+
+// A number, low byte first.
+fn put_word(s: &mut [u8], at: usize, a: usize)
+    requires { ⌜ at + 4 ≤ length (now s) ⌝ }
+    ensures { λ _. ⌜ now (s .exit) ≡ sets (now (s .entry)) at (word a) ⌝ }
+{
+    put_four(
+        s,
+        at,
+        (a % 256) as u8,
+        (a / 256 % 256) as u8,
+        (a / 65536 % 256) as u8,
+        (a / 16777216 % 256) as u8,
+    );
+}
+
+// Four bytes, one after the other.
+fn put_four(s: &mut [u8], at: usize, a: u8, b: u8, c: u8, d: u8)
+    requires { ⌜ at + 4 ≤ length (now s) ⌝ }
+    ensures { λ _. ⌜ now (s .exit) ≡ sets (now (s .entry)) at (a ∷ b ∷ c ∷ d ∷ []) ⌝ }
+{
+    s[at] = a;
+    s[at + 1] = b;
+    s[at + 2] = c;
+    s[at + 3] = d;
+}

@@ -1,0 +1,56 @@
+-- The place after one in a page of 64, and which places so many data bytes are for.
+-- Assumes nothing.
+use Prim.Native.Nat.{ℕ, _+_, _-_, _*_, _/_, _%_, _<_, _≤_}
+use native.Mathlib.Nat.{mod-eq-of-lt, mod-self, mod-lt}
+use native.Mathlib.Omega.{arith}
+use mathlib.Core.Path.{_≡_, sym}
+use lib.Dec.{ltb}
+use borrow.Author.Tests.{ltb-true, ltb-false, lt-ltb, le-ltb}
+use Rattle.law.specs.Choice.{split}
+use Rattle.page.specs.Rolling.{rolledIn}
+use Rattle.eeprom.specs.Write.{nextInPage, counted, firstSent}
+
+-- ---- of every page
+-- the place after one is the next modulo the page's size
+pub rolled-mod : (last at : ℕ) → at ≤ last → rolledIn last at ≡ (at + 1) % (last + 1)
+rolled-mod last at h =
+    split (ltb at last)
+    (λ t. let l = ltb-true at last t in simp (t) (sym (mod-eq-of-lt (omega arith))))
+    (λ t. let l = ltb-false at last t in let e : at ≡ last = omega arith in simp (t) (rw e (sym (mod-self (last + 1)))))
+
+pub rolled-small : (last at : ℕ) → at ≤ last → rolledIn last at ≤ last
+rolled-small last at h =
+    let l : (at + 1) % (last + 1) < last + 1 = mod-lt (at + 1) (omega arith) in
+    rw (rolled-mod last at h) (omega arith)
+
+-- ---- the page stays, the low six bits go on
+pub next-is : (p : ℕ) → nextInPage p ≡ p / 64 * 64 + (p % 64 + 1) % 64
+next-is p = rw (rolled-mod 63 (p % 64) (omega arith))
+
+pub next-page : (p : ℕ) → nextInPage p / 64 ≡ p / 64
+next-page p = rw (next-is p) (omega arith)
+
+pub next-low : (p : ℕ) → nextInPage p % 64 ≡ (p % 64 + 1) % 64
+next-low p = rw (next-is p) (omega arith)
+
+pub next-small : (p : ℕ) → p < 32768 → nextInPage p < 32768
+next-small p h = rw (next-is p) (omega arith)
+
+-- ---- the count and the first place, by cases
+pub counted-less : (n : ℕ) → n < 64 → counted n ≡ n + 1
+counted-less n h = simp (lt-ltb _ _ h)
+
+pub counted-all : (n : ℕ) → 64 ≤ n → counted n ≡ 64
+counted-all n h = simp (le-ltb _ _ h)
+
+pub counted-small : (n : ℕ) → counted n ≤ 64
+counted-small n = split (ltb n 64) (λ t. let l = ltb-true n 64 t in simp (t) (omega arith)) (λ t. simp (t) (omega arith))
+
+pub first-less : (p n : ℕ) → n < 64 → firstSent p n ≡ (p % 64 + (64 - n)) % 64
+first-less p n h = simp (lt-ltb _ _ h)
+
+pub first-all : (p n : ℕ) → 64 ≤ n → firstSent p n ≡ 0
+first-all p n h = simp (le-ltb _ _ h)
+
+pub first-small : (p n : ℕ) → firstSent p n < 64
+first-small p n = split (ltb n 64) (λ t. simp (t) (omega arith)) (λ t. simp (t) (omega arith))

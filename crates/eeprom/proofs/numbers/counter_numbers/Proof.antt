@@ -1,0 +1,35 @@
+use borrow.Author.Needs.{needs}
+use Rattle.eeprom.proofs.numbers.counter_numbers.Statement.{statement}
+use Rattle.eeprom.proofs.numbers.counter_numbers.Tie as tie
+use Rattle.eeprom.proofs.numbers.counter_numbers.Reads as reads
+use Rattle.eeprom.proofs.numbers.counter_numbers.Lts as lts
+use Rattle.law.proofs.numbers_of.Reads as numbers-of-reads
+
+enum-told : tie.Need-enum-told
+enum-told c = search needs
+
+numbers-of-requires : tie.Need-numbers-of-requires
+numbers-of-requires c κs = search needs
+
+enum-known-counter : tie.Need-enum-known-counter
+enum-known-counter c = search needs
+
+numbers-of-requires-2 : tie.Need-numbers-of-requires-2
+numbers-of-requires-2 c κs = search needs
+
+returns : tie.Need-returns
+returns c = simp (c .before .enum-told .given .1, c .numbers-of .ensures)
+
+returns-2 : tie.Need-returns-2
+returns-2 c = simp (c .before .before .counter .given .1, c .numbers-of2 .ensures)
+
+pub counter-numbers-spec : {M : Type 1} → statement M
+counter-numbers-spec =
+    tie.close
+    (tie.spec
+    enum-told
+    numbers-of-requires
+    enum-known-counter
+    numbers-of-requires-2
+    returns
+    returns-2)

@@ -1,0 +1,14 @@
+use borrow.Author.Tests.{eq-eqb, ne-eqb}
+use Rattle.eeprom.proofs.parts.opened_by.Statement.{statement}
+use Rattle.eeprom.proofs.parts.opened_by.Tie as tie
+use Rattle.eeprom.proofs.parts.opened_by.Reads as reads
+use Rattle.eeprom.proofs.parts.opened_by.Lts as lts
+
+returns : tie.Need-returns
+returns c = simp (eq-eqb _ _ (c .if1 .taken))
+
+returns-2 : tie.Need-returns-2
+returns-2 c = simp (ne-eqb _ _ (c .if1 .left))
+
+pub opened-by-spec : {M : Type 1} → statement M
+opened-by-spec = tie.close (tie.spec returns returns-2)

@@ -1,0 +1,48 @@
+// The places that a write is for (document 01, 'EEPROM rules', Write).
+ghost use mathlib.Core.Path.{_≡_};
+ghost use Rattle.eeprom.specs.Write.{nextInPage, putByte, counted, sentBy};
+use crate::Sent;
+
+// The place after one, in the page's own rolling.
+pub(crate) fn next_in_page(place: u32) -> u32
+    ensures { λ r. ⌜ r ≡ nextInPage place ⌝ }
+{
+    let low = page::rolled((place % 64) as u8, 63);
+    place / 64 * 64 + low as u32
+}
+
+// A later byte for a place replaces the earlier.
+pub(crate) fn put_byte(place: u32, b: u8, bytes: [u8; 64]) -> [u8; 64]
+    ensures { λ r. ⌜ r ≡ putByte place b bytes ⌝ }
+{
+    let mut next = bytes;
+    let at = (place % 64) as usize;
+    next[at] = b;
+    next
+}
+
+// One data byte more.
+pub(crate) fn one_more(count: u32) -> u32
+    ensures { λ r. ⌜ r ≡ counted count ⌝ }
+{
+    if count < 64 { count + 1 } else { 64 }
+}
+
+// The places of so many data bytes, by the next one's place.
+pub(crate) fn sent_by(next: u32, count: u32) -> Sent
+    ensures { λ r. ⌜ r ≡ sentBy next count ⌝ }
+{
+    if count < 64 {
+        Sent {
+            page: next / 64,
+            first: (next % 64 + (64 - count)) % 64,
+            count: count,
+        }
+    } else {
+        Sent {
+            page: next / 64,
+            first: 0,
+            count: count,
+        }
+    }
+}

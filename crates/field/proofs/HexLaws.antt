@@ -1,0 +1,95 @@
+-- The hex field.
+use Prim.Native.Nat.{ℕ, suc, zero, _+_, _-_, _*_, _/_, _%_, _≤_, _<_}
+use native.Mathlib.Omega.{arith}
+use native.Mathlib.Nat.{add-zero, div-add-mod', add-sub-cancel-left, add-sub-of-le}
+use mathlib.Core.Path.{_≡_, refl, sym, ap, subst, _∙_}
+use mathlib.Core.Logic.{_⊎_, inl, inr, ⊎-elim}
+use mathlib.Core.List.{List, [], _∷_, _++_}
+use mathlib.Core.Bool.{Bool, true, false}
+use lib.Dec.{ltb, leb}
+use lib.Arith.{digits-div, digits-mod}
+use lib.ListN.{length, getD}
+use borrow.Author.Tests.{lt-ltb, le-ltb, le-leb, lt-leb, ltb-false, leb-true}
+use Rattle.field.specs.declared.hex.Nibble.{Nibble}
+use Rattle.field.specs.declared.hex.Nibble.the-variants.{Value, Bad}
+use Rattle.field.specs.declared.hex.ReadHex.{ReadHex}
+use Rattle.law.specs.Choice.{pick, pick-says, lt-or-le}
+use Rattle.field.specs.Hex.{hexDigit, hexField, nibbleOf, ReadsHex}
+use Rattle.field.specs.Reads.{Stands, Reads}
+use Rattle.field.proofs.Reading.{stands-getD, stands-length, stands-of, none, one}
+
+nibble-digit : (d : ℕ) → d < 16 → nibbleOf (hexDigit d) ≡ Value d
+unfolding hexDigit
+nibble-digit d h =
+    ⊎-elim (λ (p : d < 10). simp (lt-ltb d 10 p, le-ltb (48 + d) 48 (omega arith), le-leb (48 + d) 57 (omega arith), add-sub-cancel-left 48 d))
+    (λ (p : 10 ≤ d). simp (le-ltb d 10 p, le-ltb (87 + d) 48 (omega arith), lt-leb (87 + d) 57 (omega arith), le-ltb (87 + d) 97 (omega arith), le-leb (87 + d) 102 (omega arith), add-sub-cancel-left 87 d))
+    (lt-or-le d 10)
+
+never : {w : ℕ} → Bad ≡ Value w → ⊥
+never q = let z : _≡_ {A = ℕ} 0 1 = cc in omega arith
+
+value : {v w : ℕ} → Value v ≡ Value w → v ≡ w
+value q = cc
+
+nibble-says : (b d : ℕ) → nibbleOf b ≡ Value d → (d < 16) × (b ≡ hexDigit d)
+unfolding hexDigit
+nibble-says b d e =
+    ⊎-elim (λ z. absurd (never (z .1)))
+    (λ z. ⊎-elim (λ y. let v = value (y .1) in let l = ltb-false b 48 (z .0) in let m = leb-true b 57 (y .0) in (omega arith, rw (lt-ltb d 10 (omega arith)) (omega arith)))
+    (λ y. ⊎-elim (λ x. absurd (never (x .1)))
+    (λ x. ⊎-elim (λ w. let v = value (w .1) in let l = ltb-false b 97 (x .0) in let m = leb-true b 102 (w .0) in (omega arith, rw (le-ltb d 10 (omega arith)) (omega arith)))
+    (λ w. absurd (never (w .1)))
+    (pick-says (leb b 102) _ _ _ (x .1)))
+    (pick-says (ltb b 97) _ _ _ (y .1)))
+    (pick-says (leb b 57) _ _ _ (z .1)))
+    (pick-says (ltb b 48) _ _ _ e)
+
+-- the two digits of a spelled byte, as the text has them
+module _ (text : List ℕ) (at : ℕ) where
+  high : (x : ℕ) → x < 256 → Stands text at (hexField x) → nibbleOf (getD text at 0) ≡ Value (x / 16)
+  unfolding hexField
+  high x h s = ap nibbleOf (ap (λ (k : ℕ). getD text k 0) (sym (add-zero at)) ∙ stands-getD text (hexField x) at s 0 (omega arith)) ∙ nibble-digit (x / 16) (omega arith)
+
+  low : (x : ℕ) → x < 256 → Stands text at (hexField x) → nibbleOf (getD text (at + 1) 0) ≡ Value (x % 16)
+  unfolding hexField
+  low x h s = ap nibbleOf (stands-getD text (hexField x) at s 1 (omega arith)) ∙ nibble-digit (x % 16) (omega arith)
+
+  pub hex-short : length text < at + 2 → ReadsHex text at ReadHex.Bad
+  unfolding hexField
+  hex-short h = none (λ x o s. let l = stands-length text (hexField x) at s (omega arith) in omega arith)
+
+  pub hex-high : nibbleOf (getD text at 0) ≡ Bad → ReadsHex text at ReadHex.Bad
+  hex-high e = none (λ x o s. never (sym e ∙ high x o s))
+
+  pub hex-low : nibbleOf (getD text (at + 1) 0) ≡ Bad → ReadsHex text at ReadHex.Bad
+  hex-low e = none (λ x o s. never (sym e ∙ low x o s))
+
+  pub hex-both : (a b : ℕ) → at + 2 ≤ length text → nibbleOf (getD text at 0) ≡ Value a → nibbleOf (getD text (at + 1) 0) ≡ Value b → ReadsHex text at (ReadHex.Value (a * 16 + b) (record { at = at + 2 }))
+  unfolding hexField
+  hex-both a b h p q =
+      let m = nibble-says (getD text at 0) a p in
+      let n = nibble-says (getD text (at + 1) 0) b q in
+      one (a * 16 + b) (at + 2) (omega arith)
+      (stands-of text (hexField (a * 16 + b)) at h (bytes m n))
+      refl
+      (λ y o s. let v = value (sym p ∙ high y o s) in let w = value (sym q ∙ low y o s) in let d = div-add-mod' y 16 in omega arith)
+    where
+      bytes : ((a < 16) × (getD text at 0 ≡ hexDigit a)) → ((b < 16) × (getD text (at + 1) 0 ≡ hexDigit b)) → (i : ℕ) → i < 2 → getD text (at + i) 0 ≡ getD (hexField (a * 16 + b)) i 0
+      bytes m n zero l = rw (add-zero, digits-div a (n .0)) (m .1)
+      bytes m n (suc zero) l = rw (digits-mod a (n .0)) (n .1)
+      bytes m n (suc (suc i)) l = absurd (omega arith)
+
+pub nibble-small : (b d : ℕ) → nibbleOf b ≡ Value d → d < 16
+nibble-small b d e = nibble-says b d e .0
+
+-- the byte that two hex digits spell
+digitOf : Nibble → ℕ
+digitOf (Value d) = d
+digitOf Bad = 0
+
+pub unhex : ℕ → ℕ → ℕ
+unhex a b = digitOf (nibbleOf a) * 16 + digitOf (nibbleOf b)
+
+pub unhex-is : (x : ℕ) → x < 256 → unhex (hexDigit (x / 16)) (hexDigit (x % 16)) ≡ x
+unfolding unhex digitOf
+unhex-is x h = rw (nibble-digit (x / 16) (omega arith), nibble-digit (x % 16) (omega arith)) (div-add-mod' x 16)

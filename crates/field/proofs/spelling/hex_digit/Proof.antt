@@ -1,0 +1,24 @@
+use Rattle.field.specs.Hex.{hexDigit}
+use borrow.Author.Tests.{le-ltb, lt-ltb}
+use borrow.Author.Needs.{needs}
+use Rattle.field.proofs.spelling.hex_digit.Statement.{statement}
+use Rattle.field.proofs.spelling.hex_digit.Tie as tie
+use Rattle.field.proofs.spelling.hex_digit.Reads as reads
+use Rattle.field.proofs.spelling.hex_digit.Lts as lts
+
+add-result : tie.Need-add-result
+add-result c = search needs
+
+returns : tie.Need-returns
+unfolding hexDigit
+returns c = simp (lt-ltb _ _ (c .if1 .taken))
+
+add-result-2 : tie.Need-add-result-2
+add-result-2 c = search needs
+
+returns-2 : tie.Need-returns-2
+unfolding hexDigit
+returns-2 c = simp (le-ltb _ _ (c .if1 .left))
+
+pub hex-digit-spec : {M : Type 1} → statement M
+hex-digit-spec = tie.close (tie.spec add-result returns add-result-2 returns-2)

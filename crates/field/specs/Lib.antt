@@ -1,0 +1,7 @@
+-- How a field is spelled, and what it is to read one and to write one.
+pub mod Reads
+pub mod Decimal
+pub mod Hex
+pub mod Word
+pub mod Digit
+pub mod Spelling

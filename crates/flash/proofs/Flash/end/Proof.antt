@@ -1,0 +1,28 @@
+use Rattle.law.specs.Choice.{via}
+use borrow.Author.Needs.{needs}
+use Rattle.flash.proofs.Flash.end.Statement.{statement}
+use Rattle.flash.proofs.Flash.end.Tie as tie
+use Rattle.flash.proofs.Flash.end.Reads as reads
+use Rattle.flash.proofs.Flash.end.Lts as lts
+use Rattle.flash.proofs.bare_chip.Reads as bare-chip-reads
+use Rattle.flash.proofs.cycle.end_status.Reads as end-status-reads
+use Rattle.flash.proofs.cycle.running.Reads as running-reads
+
+running-requires : tie.Need-running-requires
+running-requires c κs = search needs
+
+end-status-requires : tie.Need-end-status-requires
+end-status-requires c κs = search needs
+
+bare-chip-requires : tie.Need-bare-chip-requires
+bare-chip-requires c κs = search needs
+
+returns : tie.Need-returns
+returns c = simp (via (c .before .before .before .running .ensures) (c .before .before .if1 .taken), c .before .end-status .ensures, c .bare-chip .ensures)
+
+returns-2 : tie.Need-returns-2
+returns-2 c = simp (via (c .before .running .ensures) (c .if1 .left))
+
+pub end-spec : {M : Type 1} → statement M
+end-spec =
+    tie.close (tie.spec running-requires end-status-requires bare-chip-requires returns returns-2)

@@ -1,0 +1,4 @@
+-- Theorems over the flash's rules.
+pub mod Bounds
+pub mod Cases
+pub mod Laws

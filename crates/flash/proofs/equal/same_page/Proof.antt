@@ -1,0 +1,24 @@
+use mathlib.Core.Path.{sym, _∙_}
+use Rattle.law.specs.Choice.{true-not-false}
+use borrow.Author.Needs.{needs}
+use Rattle.flash.proofs.equal.same_page.Statement.{statement}
+use Rattle.flash.proofs.equal.same_page.Tie as tie
+use Rattle.flash.proofs.equal.same_page.Reads as reads
+use Rattle.flash.proofs.equal.same_page.Lts as lts
+use Rattle.check.proofs.same.Reads as same-reads
+
+slice-aggregate-same : tie.Need-slice-aggregate-same
+slice-aggregate-same c = search needs
+
+slice-aggregate-same-2 : tie.Need-slice-aggregate-same-2
+slice-aggregate-same-2 c = search needs
+
+same-requires : tie.Need-same-requires
+same-requires c κs = search needs
+
+returns : tie.Need-returns
+returns c = record { holds = c .same .ensures .0; fails = λ e p. true-not-false (sym (c .same .ensures .1 p) ∙ e) }
+
+pub same-page-spec : {M : Type 1} → statement M
+same-page-spec =
+    tie.close (tie.spec slice-aggregate-same slice-aggregate-same-2 same-requires returns)

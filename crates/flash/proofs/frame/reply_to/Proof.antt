@@ -1,0 +1,97 @@
+use borrow.Author.Needs.{needs}
+use Rattle.flash.proofs.frame.reply_to.Statement.{statement}
+use Rattle.flash.proofs.frame.reply_to.Tie as tie
+use Rattle.flash.proofs.frame.reply_to.Reads as reads
+use Rattle.flash.proofs.frame.reply_to.Lts as lts
+use Rattle.flash.proofs.frame.fetch.Reads as fetch-reads
+use Rattle.flash.proofs.frame.identity.Reads as identity-reads
+use Rattle.flash.proofs.frame.status_reply.Reads as status-reply-reads
+
+enum-told : tie.Need-enum-told
+enum-told c = search needs
+
+enum-told-2 : tie.Need-enum-told-2
+enum-told-2 c = search needs
+
+enum-told-3 : tie.Need-enum-told-3
+enum-told-3 c = search needs
+
+status-reply-requires : tie.Need-status-reply-requires
+status-reply-requires c κs = search needs
+
+enum-told-4 : tie.Need-enum-told-4
+enum-told-4 c = search needs
+
+enum-told-5 : tie.Need-enum-told-5
+enum-told-5 c = search needs
+
+fetch-requires : tie.Need-fetch-requires
+fetch-requires c κs = search needs
+
+enum-told-6 : tie.Need-enum-told-6
+enum-told-6 c = search needs
+
+enum-told-7 : tie.Need-enum-told-7
+enum-told-7 c = search needs
+
+enum-told-8 : tie.Need-enum-told-8
+enum-told-8 c = search needs
+
+enum-told-9 : tie.Need-enum-told-9
+enum-told-9 c = search needs
+
+identity-requires : tie.Need-identity-requires
+identity-requires c κs = search needs
+
+returns : tie.Need-returns
+returns c = search needs
+
+returns-2 : tie.Need-returns-2
+returns-2 c = search needs
+
+returns-3 : tie.Need-returns-3
+returns-3 c = simp (c .before .enum-told3 .given .1, c .status-reply .ensures)
+
+returns-4 : tie.Need-returns-4
+returns-4 c = search needs
+
+returns-5 : tie.Need-returns-5
+returns-5 c = simp (c .before .enum-told5 .given .1, c .fetch .ensures)
+
+returns-6 : tie.Need-returns-6
+returns-6 c = search needs
+
+returns-7 : tie.Need-returns-7
+returns-7 c = search needs
+
+returns-8 : tie.Need-returns-8
+returns-8 c = search needs
+
+returns-9 : tie.Need-returns-9
+returns-9 c = simp (c .before .enum-told9 .given .1, c .identity .ensures)
+
+pub reply-to-spec : {M : Type 1} → statement M
+reply-to-spec =
+    tie.close
+    (tie.spec
+    enum-told
+    enum-told-2
+    enum-told-3
+    status-reply-requires
+    enum-told-4
+    enum-told-5
+    fetch-requires
+    enum-told-6
+    enum-told-7
+    enum-told-8
+    enum-told-9
+    identity-requires
+    returns
+    returns-2
+    returns-3
+    returns-4
+    returns-5
+    returns-6
+    returns-7
+    returns-8
+    returns-9)

@@ -1,0 +1,143 @@
+-- What every cycle keeps, ended or cut: an image's lengths, that no bit is set in both value and mask, and that all are bytes.
+-- Assumes nothing.
+use mathlib.Core.Path.{_≡_, sym, ap, _∙_, subst}
+use mathlib.Core.Logic.{⊎-elim}
+use mathlib.Core.List.{List}
+use Prim.Native.Nat.{ℕ, _/_, _%_, _<_}
+use native.Mathlib.Omega.{arith}
+use lib.Dec.{eqb}
+use lib.Bits.{bitAnd, and-zero-l}
+use lib.ListN.{length, getD, List·getD-eq-default}
+use Rattle.law.specs.Choice.{pick, split, of-both, lt-or-le}
+use Rattle.cell.specs.declared.Cell.{Cell}
+use Rattle.cell.specs.Rules.{erasedCell, doubtfulCell, storedCell, programmedCell, cutCell, Disjoint, ByteCell}
+use Rattle.cell.proofs.Disjoint.{disjoint-erased, disjoint-doubtful, disjoint-stored, disjoint-programmed, disjoint-cut}
+use Rattle.cell.proofs.Neutral.{byte-erased, byte-doubtful, byte-stored, byte-programmed, byte-cut}
+use Rattle.image.specs.Image.{Image, keptBytes, fits, cellAt, onImage, inPage, onPage, Clean, Bytes}
+use Rattle.image.specs.Cycles.{programPage, cutProgramPage, eraseAll, cutEraseAll, storePage, cutStorePage, isSent}
+use Rattle.image.proofs.Fitting.{on-unfit, page-there, page-none}
+use Rattle.image.proofs.Reading.{noCell, on-fits, on-at, on-past, page-fits}
+
+-- the six rules keep the lengths
+module _ (i : Image) where
+  pub fits-programPage : (number : ℕ) (bytes : List ℕ) → fits (programPage number bytes i) ≡ fits i
+  unfolding programPage
+  fits-programPage number bytes = page-fits 256 number (λ q c. programmedCell c (getD bytes q 0)) i
+
+  pub fits-cutProgramPage : (number : ℕ) (bytes : List ℕ) → fits (cutProgramPage number bytes i) ≡ fits i
+  unfolding cutProgramPage
+  fits-cutProgramPage number bytes = page-fits 256 number (λ q c. cutCell c (getD bytes q 0)) i
+
+  pub fits-eraseAll : fits (eraseAll i) ≡ fits i
+  unfolding eraseAll
+  fits-eraseAll = on-fits (λ k c. erasedCell) i
+
+  pub fits-cutEraseAll : fits (cutEraseAll i) ≡ fits i
+  unfolding cutEraseAll
+  fits-cutEraseAll = on-fits (λ k c. doubtfulCell) i
+
+  pub fits-storePage : (number first count : ℕ) (bytes : List ℕ) → fits (storePage number first count bytes i) ≡ fits i
+  unfolding storePage
+  fits-storePage number first count bytes = page-fits 64 number (λ q c. pick (isSent first count q) (storedCell (getD bytes q 0)) c) i
+
+  pub fits-cutStorePage : (number first count : ℕ) → fits (cutStorePage number first count i) ≡ fits i
+  unfolding cutStorePage
+  fits-cutStorePage number first count = page-fits 64 number (λ q c. pick (isSent first count q) doubtfulCell c) i
+
+-- what the rule keeps of each byte, the image keeps of all
+module _ (P : Cell → Type 0) (none : P noCell) (i : Image) (had : (k : ℕ) → P (cellAt i k)) where
+  pub on-keeps : (rule : ℕ → Cell → Cell) → ((k : ℕ) (c : Cell) → P c → P (rule k c)) → (k : ℕ) → P (cellAt (onImage rule i) k)
+  on-keeps rule keeps k =
+      split (fits i)
+      (λ t.
+      ⊎-elim (λ l. subst P (sym (on-at rule i t k l)) (keeps k (cellAt i k) (had k)))
+      (λ l. subst P (sym (on-past rule i t k l)) none) (lt-or-le k keptBytes))
+      (λ t. subst (λ (w : Image). P (cellAt w k)) (sym (on-unfit i rule t)) (had k))
+
+  pub page-keeps : (size number : ℕ) (rule : ℕ → Cell → Cell) → ((q : ℕ) (c : Cell) → P c → P (rule q c)) → (k : ℕ)
+      → P (cellAt (onPage size number rule i) k)
+  page-keeps size number rule keeps k =
+      ⊎-elim
+      (λ h.
+      subst (λ (w : Image). P (cellAt w k)) (sym (page-there i size number rule h))
+      (on-keeps (inPage size number rule)
+      (λ j c p. of-both P (eqb (j / size) number) (rule (j % size) c) c (keeps (j % size) c p) p) k))
+      (λ h. subst (λ (w : Image). P (cellAt w k)) (sym (page-none i size number rule h)) (had k)) (lt-or-le number (keptBytes / size))
+
+-- no doubtful bit is set in the value
+module _ (i : Image) (h : Clean i) where
+  none : Disjoint noCell
+  none = disjoint-stored 0
+
+  pub clean-programPage : (number : ℕ) (bytes : List ℕ) → Clean (programPage number bytes i)
+  unfolding programPage Clean
+  clean-programPage number bytes =
+      page-keeps Disjoint none i h 256 number (λ q c. programmedCell c (getD bytes q 0)) (λ q c p. disjoint-programmed c (getD bytes q 0) p)
+
+  pub clean-cutProgramPage : (number : ℕ) (bytes : List ℕ) → Clean (cutProgramPage number bytes i)
+  unfolding cutProgramPage Clean
+  clean-cutProgramPage number bytes =
+      page-keeps Disjoint none i h 256 number (λ q c. cutCell c (getD bytes q 0)) (λ q c p. disjoint-cut c (getD bytes q 0) p)
+
+  pub clean-eraseAll : Clean (eraseAll i)
+  unfolding eraseAll Clean
+  clean-eraseAll = on-keeps Disjoint none i h (λ k c. erasedCell) (λ k c p. disjoint-erased)
+
+  pub clean-cutEraseAll : Clean (cutEraseAll i)
+  unfolding cutEraseAll Clean
+  clean-cutEraseAll = on-keeps Disjoint none i h (λ k c. doubtfulCell) (λ k c p. disjoint-doubtful)
+
+  pub clean-storePage : (number first count : ℕ) (bytes : List ℕ) → Clean (storePage number first count bytes i)
+  unfolding storePage Clean
+  clean-storePage number first count bytes =
+      page-keeps Disjoint none i h 64 number (λ q c. pick (isSent first count q) (storedCell (getD bytes q 0)) c)
+      (λ q c p. of-both Disjoint (isSent first count q) (storedCell (getD bytes q 0)) c (disjoint-stored (getD bytes q 0)) p)
+
+  pub clean-cutStorePage : (number first count : ℕ) → Clean (cutStorePage number first count i)
+  unfolding cutStorePage Clean
+  clean-cutStorePage number first count =
+      page-keeps Disjoint none i h 64 number (λ q c. pick (isSent first count q) doubtfulCell c)
+      (λ q c p. of-both Disjoint (isSent first count q) doubtfulCell c disjoint-doubtful p)
+
+-- it is enough to look at the places that an image has
+pub clean-places : (i : Image) → ((k : ℕ) → k < length (i .values) → Disjoint (cellAt i k)) → Clean i
+unfolding Clean Disjoint
+clean-places i h k =
+    ⊎-elim (λ l. h k l)
+    (λ l. ap (λ (v : ℕ). bitAnd v (getD (i .masks) k 0)) (List·getD-eq-default (i .values) 0 {n = k} l) ∙ and-zero-l (getD (i .masks) k 0))
+    (lt-or-le k (length (i .values)))
+
+-- values and masks stay bytes
+module _ (i : Image) (h : Bytes i) where
+  zero-byte : ByteCell noCell
+  zero-byte = byte-stored 0 (omega arith)
+
+  pub bytes-programPage : (number : ℕ) (bytes : List ℕ) → Bytes (programPage number bytes i)
+  unfolding programPage Bytes
+  bytes-programPage number bytes =
+      page-keeps ByteCell zero-byte i h 256 number (λ q c. programmedCell c (getD bytes q 0)) (λ q c p. byte-programmed c (getD bytes q 0) p)
+
+  pub bytes-cutProgramPage : (number : ℕ) (bytes : List ℕ) → Bytes (cutProgramPage number bytes i)
+  unfolding cutProgramPage Bytes
+  bytes-cutProgramPage number bytes =
+      page-keeps ByteCell zero-byte i h 256 number (λ q c. cutCell c (getD bytes q 0)) (λ q c p. byte-cut c (getD bytes q 0) p)
+
+  pub bytes-eraseAll : Bytes (eraseAll i)
+  unfolding eraseAll Bytes
+  bytes-eraseAll = on-keeps ByteCell zero-byte i h (λ k c. erasedCell) (λ k c p. byte-erased)
+
+  pub bytes-cutEraseAll : Bytes (cutEraseAll i)
+  unfolding cutEraseAll Bytes
+  bytes-cutEraseAll = on-keeps ByteCell zero-byte i h (λ k c. doubtfulCell) (λ k c p. byte-doubtful)
+
+  pub bytes-storePage : (number first count : ℕ) (bytes : List ℕ) → ((q : ℕ) → getD bytes q 0 < 256) → Bytes (storePage number first count bytes i)
+  unfolding storePage Bytes
+  bytes-storePage number first count bytes small =
+      page-keeps ByteCell zero-byte i h 64 number (λ q c. pick (isSent first count q) (storedCell (getD bytes q 0)) c)
+      (λ q c p. of-both ByteCell (isSent first count q) (storedCell (getD bytes q 0)) c (byte-stored (getD bytes q 0) (small q)) p)
+
+  pub bytes-cutStorePage : (number first count : ℕ) → Bytes (cutStorePage number first count i)
+  unfolding cutStorePage Bytes
+  bytes-cutStorePage number first count =
+      page-keeps ByteCell zero-byte i h 64 number (λ q c. pick (isSent first count q) doubtfulCell c)
+      (λ q c p. of-both ByteCell (isSent first count q) doubtfulCell c byte-doubtful p)

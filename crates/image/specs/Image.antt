@@ -1,0 +1,61 @@
+-- The kept bytes of a chip: their values and their masks of doubtful bits.
+use Prim.Native.Nat.{ℕ, _/_, _%_}
+use mathlib.Core.Bool.{Bool, false}
+use mathlib.Core.List.{List}
+use lib.Dec.{eqb, ltb}
+use lib.ListN.{length, getD}
+use Rattle.law.specs.Choice.{pick}
+use Rattle.law.specs.Places.{byPlace}
+use Rattle.cell.specs.declared.Cell.{Cell}
+use Rattle.cell.specs.Rules.{Disjoint, ByteCell}
+
+pub record Image : Type 0 where
+  pub values : List ℕ
+  pub masks : List ℕ
+
+abbrev pub imageOf : List ℕ → List ℕ → Image
+imageOf values masks = record { values = values; masks = masks }
+
+-- 'What is replayed': 32,768 bytes are kept of the flash, and of the EEPROM
+abbrev pub keptBytes : ℕ
+keptBytes = 32768
+
+-- does an image have that many values and masks?
+unfoldable pub fits : Image → Bool
+fits i = pick (eqb (length (i .values)) keptBytes) (eqb (length (i .masks)) keptBytes) false
+
+-- the kept byte at a place
+abbrev pub cellAt : Image → ℕ → Cell
+cellAt i k = record { value = getD (i .values) k 0; mask = getD (i .masks) k 0 }
+
+-- what a rule makes of a value v, and of a mask m, at place k
+abbrev pub valueBy : (ℕ → Cell → Cell) → List ℕ → ℕ → ℕ → ℕ
+valueBy rule masks k v = rule k (record { value = v; mask = getD masks k 0 }) .value
+
+abbrev pub maskBy : (ℕ → Cell → Cell) → List ℕ → ℕ → ℕ → ℕ
+maskBy rule values k m = rule k (record { value = getD values k 0; mask = m }) .mask
+
+-- every kept byte by a rule that gets its place
+unfoldable pub eachPlace : (ℕ → Cell → Cell) → Image → Image
+eachPlace rule i =
+    imageOf (byPlace (valueBy rule (i .masks)) 0 (i .values)) (byPlace (maskBy rule (i .values)) 0 (i .masks))
+
+-- the same of an image that fits; another stays as it is
+unfoldable pub onImage : (ℕ → Cell → Cell) → Image → Image
+onImage rule i = pick (fits i) (eachPlace rule i) i
+
+-- place k is place k % size of page k / size: only those of page `number` change
+abbrev pub inPage : ℕ → ℕ → (ℕ → Cell → Cell) → ℕ → Cell → Cell
+inPage size number rule k c = pick (eqb (k / size) number) (rule (k % size) c) c
+
+-- page `number` of an image that fits; a number past the last page changes nothing
+unfoldable pub onPage : ℕ → ℕ → (ℕ → Cell → Cell) → Image → Image
+onPage size number rule i = pick (ltb number (keptBytes / size)) (onImage (inPage size number rule) i) i
+
+-- 'Bytes and doubt': a doubtful bit is 0 in the value, at every place
+unfoldable pub Clean : Image → Type 0
+Clean i = (k : ℕ) → Disjoint (cellAt i k)
+
+-- values and masks are bytes
+unfoldable pub Bytes : Image → Type 0
+Bytes i = (k : ℕ) → ByteCell (cellAt i k)

@@ -1,0 +1,4 @@
+-- The kept bytes of a chip, what a cycle makes of them, and the page view.
+pub mod Image
+pub mod Cycles
+pub mod View

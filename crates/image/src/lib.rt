@@ -1,0 +1,186 @@
+// The kept bytes of one chip, lent as values and masks of doubtful bits: what a cycle makes of them, whole or cut by the supply.
+// A slice of another length than 32,768, and a page number that no page has, are left alone.
+ghost use mathlib.Core.Path.{_≡_};
+ghost use Prim.Native.Nat.{_+_, _*_, _≤_, _<_};
+ghost use lib.ListN.{length};
+ghost use Rattle.law.specs.Places.{byPlace};
+ghost use Rattle.image.specs.Image.{imageOf, keptBytes, eachPlace, onImage, inPage, onPage};
+ghost use Rattle.image.specs.Cycles.{programPage, cutProgramPage, eraseAll, cutEraseAll, storePage, cutStorePage, isSent, changedCell, changedPlace};
+use cell::Cell;
+
+pub mod view;
+
+// How many bytes are kept of a chip.
+const KEPT: usize = 32768;
+
+// What becomes of the places of a page.
+enum Change {
+    Program,
+    CutProgram,
+    Store { first: usize, count: usize },
+    CutStore { first: usize, count: usize },
+}
+
+// The end of PROGRAM in page `number`: `bytes` is ff where nothing was sent.
+pub fn program_page(values: &mut [u8], masks: &mut [u8], number: usize, bytes: [u8; 256])
+    ensures { λ _. ⌜ imageOf (now (values .exit)) (now (masks .exit)) ≡ programPage number bytes (imageOf (now (values .entry)) (now (masks .entry))) ⌝ }
+{
+    change_page(values, masks, Change::Program, number, &bytes);
+}
+
+// PROGRAM in page `number`, cut by the supply.
+pub fn cut_program_page(values: &mut [u8], masks: &mut [u8], number: usize, bytes: [u8; 256])
+    ensures { λ _. ⌜ imageOf (now (values .exit)) (now (masks .exit)) ≡ cutProgramPage number bytes (imageOf (now (values .entry)) (now (masks .entry))) ⌝ }
+{
+    change_page(values, masks, Change::CutProgram, number, &bytes);
+}
+
+// The end of an erase.
+pub fn erase(values: &mut [u8], masks: &mut [u8])
+    ensures { λ _. ⌜ imageOf (now (values .exit)) (now (masks .exit)) ≡ eraseAll (imageOf (now (values .entry)) (now (masks .entry))) ⌝ }
+{
+    fill_both(values, masks, cell::erased());
+}
+
+// An erase, cut by the supply.
+pub fn cut_erase(values: &mut [u8], masks: &mut [u8])
+    ensures { λ _. ⌜ imageOf (now (values .exit)) (now (masks .exit)) ≡ cutEraseAll (imageOf (now (values .entry)) (now (masks .entry))) ⌝ }
+{
+    fill_both(values, masks, cell::doubtful());
+}
+
+// The end of an EEPROM write in page `number`: `count` bytes were sent from place `first` on.
+pub fn store_page(
+    values: &mut [u8],
+    masks: &mut [u8],
+    number: usize,
+    first: usize,
+    count: usize,
+    bytes: [u8; 64],
+)
+    ensures { λ _. ⌜ imageOf (now (values .exit)) (now (masks .exit)) ≡ storePage number first count bytes (imageOf (now (values .entry)) (now (masks .entry))) ⌝ }
+{
+    let how = Change::Store {
+        first: first,
+        count: count,
+    };
+    change_page(values, masks, how, number, &bytes);
+}
+
+// An EEPROM write in page `number`, cut by the supply.
+pub fn cut_store_page(
+    values: &mut [u8],
+    masks: &mut [u8],
+    number: usize,
+    first: usize,
+    count: usize,
+)
+    ensures { λ _. ⌜ imageOf (now (values .exit)) (now (masks .exit)) ≡ cutStorePage number first count (imageOf (now (values .entry)) (now (masks .entry))) ⌝ }
+{
+    let how = Change::CutStore {
+        first: first,
+        count: count,
+    };
+    // No data is put in: only the page's length counts.
+    let page = [0u8; 64];
+    change_page(values, masks, how, number, &page);
+}
+
+// Was place q of an EEPROM page sent, in the page's own rolling?
+fn sent(first: usize, count: usize, q: usize) -> bool
+    requires { ⌜ q < 256 ⌝ }
+    ensures { λ r. ⌜ r ≡ isSent first count q ⌝ }
+{
+    if first < 64 {
+        (q + (64 - first)) % 64 < count
+    } else {
+        false
+    }
+}
+
+// The kept byte c at place q of a page whose data there is d, after the cycle.
+fn changed(how: Change, q: usize, c: Cell, d: u8) -> Cell
+    requires { ⌜ q < 256 ⌝ }
+    ensures { λ r. ⌜ r ≡ changedCell how q c d ⌝ }
+{
+    match how {
+        Change::Program => cell::programmed(c, d),
+        Change::CutProgram => cell::cut_program(c, d),
+        Change::Store { first, count } => {
+            if sent(first, count, q) {
+                cell::stored(d)
+            } else {
+                c
+            }
+        }
+        Change::CutStore { first, count } => {
+            if sent(first, count, q) {
+                cell::doubtful()
+            } else {
+                c
+            }
+        }
+    }
+}
+
+// A page of an image, if the image fits and has that page. The page is as long as its data.
+fn change_page(values: &mut [u8], masks: &mut [u8], how: Change, number: usize, bytes: &[u8])
+    requires { ⌜ (0 < length (now bytes)) × (length (now bytes) ≤ 256) ⌝ }
+    ensures { λ _. ⌜ imageOf (now (values .exit)) (now (masks .exit)) ≡ onPage (length (now (bytes .entry))) number (changedPlace how (now (bytes .entry))) (imageOf (now (values .entry)) (now (masks .entry))) ⌝ }
+{
+    if KEPT / bytes.len() <= number {
+        return;
+    }
+    if values.len() != KEPT {
+        return;
+    }
+    if masks.len() != KEPT {
+        return;
+    }
+    change_places(values, masks, how, number, bytes);
+}
+
+// The places of the page, one after the other.
+fn change_places(values: &mut [u8], masks: &mut [u8], how: Change, number: usize, bytes: &[u8])
+    requires { ⌜ (length (now values) ≡ keptBytes) × (length (now masks) ≡ keptBytes) × (0 < length (now bytes)) × (length (now bytes) ≤ 256) × (length (now bytes) * number + length (now bytes) ≤ keptBytes) ⌝ }
+    ensures { λ _. ⌜ imageOf (now (values .exit)) (now (masks .exit)) ≡ eachPlace (inPage (length (now (bytes .entry))) number (changedPlace how (now (bytes .entry)))) (imageOf (now (values .entry)) (now (masks .entry))) ⌝ }
+{
+    let base = bytes.len() * number;
+    let mut q: usize = 0;
+    while q < bytes.len() {
+        let k = base + q;
+        let c = Cell {
+            value: values[k],
+            mask: masks[k],
+        };
+        let n = changed(how, q, c, bytes[q]);
+        values[k] = n.value;
+        masks[k] = n.mask;
+        q += 1;
+    }
+}
+
+// Every kept byte of an image that fits is c.
+fn fill_both(values: &mut [u8], masks: &mut [u8], c: Cell)
+    ensures { λ _. ⌜ imageOf (now (values .exit)) (now (masks .exit)) ≡ onImage (λ k b. c) (imageOf (now (values .entry)) (now (masks .entry))) ⌝ }
+{
+    if values.len() != KEPT {
+        return;
+    }
+    if masks.len() != KEPT {
+        return;
+    }
+    fill(values, c.value);
+    fill(masks, c.mask);
+}
+
+// All of s is b.
+fn fill(s: &mut [u8], b: u8)
+    ensures { λ _. ⌜ now (s .exit) ≡ byPlace (λ k x. b) 0 (now (s .entry)) ⌝ }
+{
+    let mut i = 0;
+    while i < s.len() {
+        s[i] = b;
+        i += 1;
+    }
+}

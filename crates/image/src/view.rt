@@ -1,0 +1,74 @@
+// The page view: a page of the flash image or of the EEPROM image as a part of it, not a copy.
+ghost use mathlib.Core.Path.{_≡_};
+ghost use Rattle.image.specs.View.{pageSize, lastPage, canShow, viewPlace, viewLength, pageShown};
+use crate::KEPT;
+
+pub enum Chip {
+    Flash,
+    Eeprom,
+}
+
+// Page `number` of the image asked for. The empty part is refusal 11: no page is empty.
+pub fn view<'a>(flash: &'a [u8], eeprom: &'a [u8], chip: Chip, number: usize) -> &'a [u8]
+    ensures { λ r. ⌜ now r ≡ pageShown (now (flash .entry)) (now (eeprom .entry)) chip number ⌝ }
+{
+    let from = view_place(flash.len(), eeprom.len(), chip, number);
+    let to = from + view_length(flash.len(), eeprom.len(), chip, number);
+    match chip {
+        Chip::Flash => &flash[from..to],
+        Chip::Eeprom => &eeprom[from..to],
+    }
+}
+
+// For a caller that can be given no part: where in its image the page stands, by the lengths of the two images.
+pub fn view_place(flash: usize, eeprom: usize, chip: Chip, number: usize) -> usize
+    ensures { λ r. ⌜ r ≡ viewPlace flash eeprom chip number ⌝ }
+{
+    if can_show(flash, eeprom, chip, number) {
+        page_size(chip) * number
+    } else {
+        0
+    }
+}
+
+// And how long it is: 0 is refusal 11.
+pub fn view_length(flash: usize, eeprom: usize, chip: Chip, number: usize) -> usize
+    ensures { λ r. ⌜ r ≡ viewLength flash eeprom chip number ⌝ }
+{
+    if can_show(flash, eeprom, chip, number) {
+        page_size(chip)
+    } else {
+        0
+    }
+}
+
+// Both images have to be whole, whichever is asked for.
+fn can_show(flash: usize, eeprom: usize, chip: Chip, number: usize) -> bool
+    ensures { λ r. ⌜ r ≡ canShow flash eeprom chip number ⌝ }
+{
+    if flash != KEPT {
+        return false;
+    }
+    if eeprom != KEPT {
+        return false;
+    }
+    number <= last_page(chip)
+}
+
+fn last_page(chip: Chip) -> usize
+    ensures { λ r. ⌜ r ≡ lastPage chip ⌝ }
+{
+    match chip {
+        Chip::Flash => 127,
+        Chip::Eeprom => 511,
+    }
+}
+
+fn page_size(chip: Chip) -> usize
+    ensures { λ r. ⌜ r ≡ pageSize chip ⌝ }
+{
+    match chip {
+        Chip::Flash => 256,
+        Chip::Eeprom => 64,
+    }
+}

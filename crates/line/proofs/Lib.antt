@@ -1,0 +1,11 @@
+-- Laws of each kind of line, of what is put together and written out, and what follows of them.
+pub mod Apart
+pub mod After
+pub mod FlashLaws
+pub mod EepromLaws
+pub mod LineLaws
+pub mod RecordLaws
+pub mod BoardLaws
+pub mod OutputLaws
+pub mod Whole
+pub mod Theorems

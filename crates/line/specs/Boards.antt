@@ -1,0 +1,48 @@
+-- The board's line (document 01, 'The trace').
+use Prim.Native.Nat.{ℕ, _/_, _%_, _≤_, _<_}
+use mathlib.Core.Path.{_≡_}
+use mathlib.Core.List.{List, [], _∷_, _++_}
+use Rattle.record.specs.declared.Board.{Board}
+use Rattle.field.specs.declared.Cursor.{Cursor}
+use Rattle.field.specs.declared.hex.ReadHex.{ReadHex}
+use Rattle.field.specs.Hex.{hexField}
+use Rattle.field.specs.Digit.{digitField, DigitOk}
+use Rattle.field.specs.Reads.{Reads}
+use Rattle.line.specs.declared.boards.ReadPlaces.{ReadPlaces}
+use Rattle.line.specs.declared.boards.ReadBoard.{ReadBoard}
+use Rattle.line.specs.declared.output.Written.{Written}
+use Rattle.line.specs.Words.{tab, lf, wordBoard}
+use Rattle.line.specs.Output.{onPaper, Wrote}
+
+-- only bits 7, 3, 2 may be set: bits 1 and 0 are clear, and bits 6 to 4
+abbrev pub StatusOk : ℕ → Type 0
+StatusOk x = (x < 256) × (x % 4 ≡ 0) × (x / 16 % 8 ≡ 0)
+
+abbrev pub ReadsStatus : List ℕ → ℕ → ReadHex → Type 0
+ReadsStatus = Reads hexField StatusOk (λ n p. ReadHex.Value n (record { at = p })) ReadHex.Bad
+
+unfoldable pub spelledPlaces : ℕ × ℕ → List ℕ
+spelledPlaces x = digitField (x .0) ++ (tab ++ (digitField (x .1) ++ lf))
+
+-- watched sector 1 to 4, wired address 0 to 7
+abbrev pub PlacesOk : ℕ × ℕ → Type 0
+PlacesOk x = DigitOk 1 4 (x .0) × DigitOk 0 7 (x .1)
+
+abbrev pub ReadsPlaces : List ℕ → ℕ → ReadPlaces → Type 0
+ReadsPlaces = Reads spelledPlaces PlacesOk (λ x p. ReadPlaces.Value (x .0) (x .1) (record { at = p })) ReadPlaces.Bad
+
+-- the one spelling of a board: its line with the LF
+unfoldable pub spelledBoard : Board → List ℕ
+spelledBoard b = wordBoard ++ (tab ++ (hexField (b .status) ++ (tab ++ spelledPlaces (b .sector, b .address))))
+
+-- a board in range
+abbrev pub BoardOk : Board → Type 0
+BoardOk b = StatusOk (b .status) × PlacesOk (b .sector, b .address)
+
+abbrev pub ReadsBoard : List ℕ → ℕ → ReadBoard → Type 0
+ReadsBoard = Reads spelledBoard BoardOk (λ b p. ReadBoard.Value b (record { at = p })) ReadBoard.Bad
+
+-- a board is written: out of range is refusal 9 and leaves the output alone, else it is its line that is written
+pub record WroteBoard (b : Board) (old new : List ℕ) (r : Written) : Type 0 where
+  pub out-of-range : (BoardOk b → ⊥) → (onPaper r ≡ (9, 0)) × (new ≡ old)
+  pub in-range : BoardOk b → Wrote (spelledBoard b) old new r

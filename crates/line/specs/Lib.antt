@@ -1,0 +1,8 @@
+-- How a line is spelled, and what it is to read one and to write one.
+pub mod Words
+pub mod ChannelF
+pub mod ChannelE
+pub mod ChannelL
+pub mod Records
+pub mod Boards
+pub mod Output

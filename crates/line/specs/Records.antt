@@ -1,0 +1,40 @@
+-- A record's line (document 01, 'The trace'): stamp, channel, event, and the event's fields.
+use Prim.Native.Nat.{ℕ, _≤_}
+use mathlib.Core.List.{List, [], _∷_, _++_}
+use Rattle.record.specs.declared.Event.{Event}
+use Rattle.record.specs.declared.Event.the-variants.{Flash, Eeprom, Line}
+use Rattle.record.specs.declared.Record.{Record}
+use Rattle.field.specs.declared.Cursor.{Cursor}
+use Rattle.field.specs.declared.decimal.FieldEnd.the-variants.{Tab}
+use Rattle.field.specs.Decimal.{largest, endByte, decimalTo}
+use Rattle.field.specs.Reads.{Reads}
+use Rattle.line.specs.declared.records.ReadEvent.{ReadEvent}
+use Rattle.line.specs.declared.records.ReadRecord.{ReadRecord}
+use Rattle.line.specs.Words.{tab, channelF, channelE, channelL}
+use Rattle.line.specs.ChannelF.{spelledFlash, FlashOk}
+use Rattle.line.specs.ChannelE.{spelledEeprom, EepromOk}
+use Rattle.line.specs.ChannelL.{spelledLine}
+
+unfoldable pub spelledEvent : Event → List ℕ
+spelledEvent (Flash e) = channelF ++ (tab ++ spelledFlash e)
+spelledEvent (Eeprom e) = channelE ++ (tab ++ spelledEeprom e)
+spelledEvent (Line e) = channelL ++ (tab ++ spelledLine e)
+
+-- the one spelling of a record: its line with the LF
+unfoldable pub spelled : Record → List ℕ
+spelled r = decimalTo (endByte Tab) (r .stamp) ++ spelledEvent (r .event)
+
+abbrev pub EventOk : Event → Type 0
+EventOk (Flash e) = FlashOk e
+EventOk (Eeprom e) = EepromOk e
+EventOk (Line e) = Unit {0}
+
+-- what the types give: every record that code can hold is in range
+abbrev pub RecordOk : Record → Type 0
+RecordOk r = (r .stamp ≤ largest) × EventOk (r .event)
+
+abbrev pub ReadsEvent : List ℕ → ℕ → ReadEvent → Type 0
+ReadsEvent = Reads spelledEvent EventOk (λ x p. ReadEvent.Value x (record { at = p })) ReadEvent.Bad
+
+abbrev pub ReadsRecord : List ℕ → ℕ → ReadRecord → Type 0
+ReadsRecord = Reads spelled RecordOk (λ x p. ReadRecord.Value x (record { at = p })) ReadRecord.Bad

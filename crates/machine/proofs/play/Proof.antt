@@ -1,0 +1,64 @@
+use Rattle.machine.proofs.Playing.{played, said}
+use borrow.Author.Needs.{needs}
+use Rattle.machine.proofs.play.Statement.{statement}
+use Rattle.machine.proofs.play.Tie as tie
+use Rattle.machine.proofs.play.Reads as reads
+use Rattle.machine.proofs.play.Lts as lts
+use Rattle.board.proofs.Controls.play.Reads as play-reads
+use Rattle.machine.proofs.change_eeprom.Reads as change-eeprom-reads
+use Rattle.machine.proofs.change_flash.Reads as change-flash-reads
+use Rattle.machine.proofs.deliver_for.Reads as deliver-for-reads
+use Rattle.machine.proofs.eeprom_stroke.Reads as eeprom-stroke-reads
+use Rattle.machine.proofs.flash_stroke.Reads as flash-stroke-reads
+
+play-requires : tie.Need-play-requires
+play-requires c κs = search needs
+
+deliver-for-requires : tie.Need-deliver-for-requires
+deliver-for-requires c κs = search needs
+
+flash-stroke-requires : tie.Need-flash-stroke-requires
+flash-stroke-requires c κs = search needs
+
+change-flash-requires : tie.Need-change-flash-requires
+change-flash-requires c κs = search needs
+
+eeprom-stroke-requires : tie.Need-eeprom-stroke-requires
+eeprom-stroke-requires c κs = search needs
+
+change-eeprom-requires : tie.Need-change-eeprom-requires
+change-eeprom-requires c κs = search needs
+
+same-length : tie.Need-same-length
+same-length c = search needs
+
+same-length-2 : tie.Need-same-length-2
+same-length-2 c = search needs
+
+same-length-3 : tie.Need-same-length-3
+same-length-3 c = search needs
+
+same-length-4 : tie.Need-same-length-4
+same-length-4 c = search needs
+
+returns : tie.Need-returns
+returns c = (
+  played _ _ _ _ _ _ (c .before .before .before .before .before .before .before .before .before .before .before .before .before .before .before .before .before .before .before .before .before .before .before .before .before .play .ensures) _ _ _ _ (c .before .before .before .before .before .before .before .before .before .before .before .before .before .before .before .before .flash-stroke .ensures) (c .before .before .before .before .before .before .before .before .before .before .before .before .before .change-flash .ensures) (c .before .before .before .before .before .before .before .eeprom-stroke .ensures) (c .before .before .before .before .change-eeprom .ensures),
+  said _ _ _ _ _ _ (c .before .before .before .before .before .before .before .before .before .before .before .before .before .before .before .before .before .before .before .before .before .before .before .before .before .play .ensures) _ (c .before .before .before .before .before .before .before .before .before .before .before .before .before .before .before .before .before .before .deliver-for .ensures),
+)
+
+pub play-spec : {M : Type 1} → statement M
+play-spec =
+    tie.close
+    (tie.spec
+    play-requires
+    deliver-for-requires
+    flash-stroke-requires
+    change-flash-requires
+    eeprom-stroke-requires
+    change-eeprom-requires
+    same-length
+    same-length-2
+    same-length-3
+    same-length-4
+    returns)

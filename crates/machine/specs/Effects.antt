@@ -1,0 +1,96 @@
+-- What the cycles do to the images, whole at `end` and cut by `off` (document 01, 'Flash rules', 'EEPROM rules', 'Supply').
+use Prim.Native.Nat.{ℕ, _+_, _/_, _%_}
+use mathlib.Core.Bool.{Bool, true, not}
+use mathlib.Core.List.{List}
+use lib.Dec.{eqb}
+use Rattle.law.specs.Choice.{pick}
+use Rattle.record.specs.declared.Event.{Event}
+use Rattle.record.specs.declared.Event.the-variants as event
+use Rattle.record.specs.declared.Skeleton.{Skeleton}
+use Rattle.record.specs.declared.Skeleton.the-variants as skeleton
+use Rattle.record.specs.declared.Lines.{Lines}
+use Rattle.record.specs.declared.LineEvent.{LineEvent}
+use Rattle.record.specs.LineRules.{goesOff}
+use Rattle.flash.specs.declared.Flash.{Flash}
+use Rattle.flash.specs.declared.FlashStatus.{FlashStatus}
+use Rattle.flash.specs.declared.FlashStatus.the-variants.{Lost, Known}
+use Rattle.flash.specs.declared.FlashCycle.{FlashCycle}
+use Rattle.flash.specs.declared.FlashCycle.the-variants as flash-cycle
+use Rattle.flash.specs.Code.{sectorLocked}
+use Rattle.eeprom.specs.declared.Eeprom.{Eeprom}
+use Rattle.eeprom.specs.declared.EepromCycle.{EepromCycle}
+use Rattle.eeprom.specs.declared.EepromCycle.the-variants as eeprom-cycle
+use Rattle.image.specs.Image.{Image}
+use Rattle.image.specs.Cycles.{programPage, cutProgramPage, eraseAll, cutEraseAll, storePage, cutStorePage}
+use Rattle.machine.specs.declared.Stroke.{Stroke}
+use Rattle.machine.specs.declared.Stroke.the-variants.{Nothing, Whole, Cut}
+
+-- an `end` that finds a cycle is its whole effect
+abbrev pub strokeOf : Skeleton → Stroke
+strokeOf skeleton.Silent = Nothing
+strokeOf (skeleton.Given b) = Nothing
+strokeOf (skeleton.Fetch p) = Nothing
+strokeOf skeleton.Ack = Nothing
+strokeOf skeleton.NoAck = Nothing
+strokeOf skeleton.Starts = Nothing
+strokeOf skeleton.Ends = Whole
+strokeOf skeleton.NoCycle = Nothing
+
+-- a supply that goes off cuts both chips' cycles
+abbrev pub lineStroke : Lines → LineEvent → Stroke
+lineStroke l e = pick (goesOff l e) Cut Nothing
+
+-- what a record does to the flash's cycle, by its reply, after these lines
+abbrev pub flashStroke : Lines → Event → Skeleton → Stroke
+flashStroke l (event.Flash e) k = strokeOf k
+flashStroke l (event.Eeprom e) k = Nothing
+flashStroke l (event.Line e) k = lineStroke l e
+
+abbrev pub eepromStroke : Lines → Event → Skeleton → Stroke
+eepromStroke l (event.Flash e) k = Nothing
+eepromStroke l (event.Eeprom e) k = strokeOf k
+eepromStroke l (event.Line e) k = lineStroke l e
+
+-- page n of the chip is page n % 128 of sector n / 128 + 1
+abbrev pub sectorOfPage : ℕ → ℕ
+sectorOfPage n = n / 128 + 1
+
+-- chip erase clears the unlocked sectors; a cycle's status is known, so what stands for Lost never counts
+abbrev pub reached : FlashStatus → ℕ → Bool
+reached Lost watched = true
+reached (Known s) watched = not (sectorLocked s watched)
+
+-- at `end`, of what is kept: outside the watched sector nothing changes; WRSR changes no byte
+abbrev pub flashWhole : ℕ → FlashCycle → List ℕ → FlashStatus → Image → Image
+flashWhole watched flash-cycle.None page status i = i
+flashWhole watched (flash-cycle.Program n) page status i = pick (eqb (sectorOfPage n) watched) (programPage (n % 128) page i) i
+flashWhole watched (flash-cycle.SectorErase sector) page status i = pick (eqb sector watched) (eraseAll i) i
+flashWhole watched flash-cycle.ChipErase page status i = pick (reached status watched) (eraseAll i) i
+flashWhole watched (flash-cycle.WriteStatus bits) page status i = i
+
+-- at `off`
+abbrev pub flashCut : ℕ → FlashCycle → List ℕ → FlashStatus → Image → Image
+flashCut watched flash-cycle.None page status i = i
+flashCut watched (flash-cycle.Program n) page status i = pick (eqb (sectorOfPage n) watched) (cutProgramPage (n % 128) page i) i
+flashCut watched (flash-cycle.SectorErase sector) page status i = pick (eqb sector watched) (cutEraseAll i) i
+flashCut watched flash-cycle.ChipErase page status i = pick (reached status watched) (cutEraseAll i) i
+flashCut watched (flash-cycle.WriteStatus bits) page status i = i
+
+unfoldable pub flashAfter : Stroke → ℕ → Flash → Image → Image
+flashAfter Nothing watched f i = i
+flashAfter Whole watched f i = flashWhole watched (f .cycle) (f .page) (f .status) i
+flashAfter Cut watched f i = flashCut watched (f .cycle) (f .page) (f .status) i
+
+-- the EEPROM's bytes are all kept
+abbrev pub eepromWhole : EepromCycle → List ℕ → Image → Image
+eepromWhole eeprom-cycle.None page i = i
+eepromWhole (eeprom-cycle.Write s) page i = storePage (s .page) (s .first) (s .count) page i
+
+abbrev pub eepromCut : EepromCycle → Image → Image
+eepromCut eeprom-cycle.None i = i
+eepromCut (eeprom-cycle.Write s) i = cutStorePage (s .page) (s .first) (s .count) i
+
+unfoldable pub eepromAfter : Stroke → Eeprom → Image → Image
+eepromAfter Nothing e i = i
+eepromAfter Whole e i = eepromWhole (e .cycle) (e .page) i
+eepromAfter Cut e i = eepromCut (e .cycle) i

@@ -1,0 +1,56 @@
+-- The head as demand 3 speaks of it: what one record does to controls and images, and its reply.
+use Prim.Native.Nat.{ℕ}
+use mathlib.Core.Bool.{Bool}
+use Rattle.meaning.specs.Meaning.{Channel, F, E, L, Rules}
+use Rattle.record.specs.declared.Board.{Board}
+use Rattle.record.specs.declared.Record.{Record}
+use Rattle.record.specs.declared.Event.{Event}
+use Rattle.record.specs.declared.Event.the-variants as event
+use Rattle.record.specs.declared.Reply.{Reply}
+use Rattle.board.specs.declared.Controls.{Controls}
+use Rattle.board.specs.Play.{startOf, movedOf, lostOf}
+use Rattle.image.specs.Image.{Image}
+use Rattle.machine.specs.Effects.{flashStroke, eepromStroke, flashAfter, eepromAfter}
+use Rattle.machine.specs.Replies.{delivered}
+
+pub record Machine : Type 0 where
+  pub controls : Controls
+  pub flash : Image
+  pub eeprom : Image
+
+abbrev pub machineOf : Controls → Image → Image → Machine
+machineOf c f e = record { controls = c; flash = f; eeprom = e }
+
+-- 'Bytes and doubt': the start, with the images as they are lent
+abbrev pub machineAtStart : Board → Image → Image → Machine
+machineAtStart b f e = machineOf (startOf b) f e
+
+abbrev pub channelOf : Event → Channel
+channelOf (event.Flash e) = F
+channelOf (event.Eeprom e) = E
+channelOf (event.Line e) = L
+
+-- the image that an event's reply is delivered from; a line record reads none
+abbrev pub imageFor : Event → Image → Image → Image
+imageFor (event.Flash e) flash eeprom = flash
+imageFor (event.Eeprom e) flash eeprom = eeprom
+imageFor (event.Line e) flash eeprom = flash
+
+unfoldable pub playOn : Board → Machine → Record → Machine
+playOn b m r =
+    machineOf (movedOf b (m .controls) r .controls)
+    (flashAfter (flashStroke (m .controls .lines) (r .event) (movedOf b (m .controls) r .reply)) (b .sector) (m .controls .flash) (m .flash))
+    (eepromAfter (eepromStroke (m .controls .lines) (r .event) (movedOf b (m .controls) r .reply)) (m .controls .eeprom) (m .eeprom))
+
+unfoldable pub saysOn : Board → Machine → Record → Reply
+saysOn b m r = delivered (imageFor (r .event) (m .flash) (m .eeprom)) (movedOf b (m .controls) r .reply)
+
+-- the machine that demand 3 is about
+abbrev pub head : Board → Rules Record Machine Reply
+head b = record {
+  channel = λ r. channelOf (r .event);
+  stamp = λ r. r .stamp;
+  play = playOn b;
+  says = saysOn b;
+  lost = λ m. lostOf (m .controls);
+}

@@ -1,0 +1,3 @@
+-- Every order of one stamp's records.
+pub mod Stamp
+pub mod Verdicts

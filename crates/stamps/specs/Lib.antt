@@ -1,0 +1,3 @@
+-- One stamp of a text.
+pub mod Gathering
+pub mod Judging

@@ -1,0 +1,83 @@
+/* Hazelcrook: the replay of a memory trace on the caller's own buffers.
+ *
+ * Every function below is proved for every input: it reads and writes nothing
+ * but the bytes lent to it, keeps no pointer, and always returns. Two buffers
+ * that are lent to one call must not overlap. */
+#ifndef HAZELCROOK_H
+#define HAZELCROOK_H
+
+#include <stddef.h>
+#include <stdint.h>
+
+#ifdef __cplusplus
+extern "C" {
+#endif
+
+/* Lengths, in bytes. */
+#define HAZELCROOK_IMAGE 32768   /* an image, and its mask */
+#define HAZELCROOK_REPLIES 40000 /* four for each record */
+#define HAZELCROOK_RESULT 12
+#define HAZELCROOK_TEXT 65536 /* the longest text */
+
+/* Answers. */
+enum {
+  HAZELCROOK_SETTLED = 0,
+  HAZELCROOK_BAD_BUFFERS = 1,   /* a wrong length, or a bit set in an image and in its mask */
+  HAZELCROOK_TOO_LONG = 2,      /* text over 65,536 bytes */
+  HAZELCROOK_BAD_LINE = 3,      /* a line of wrong form, or no text */
+  HAZELCROOK_BACK_IN_TIME = 4,  /* a stamp below the one before */
+  HAZELCROOK_IMPOSSIBLE = 5,    /* a record that cannot be */
+  HAZELCROOK_CROWDED = 6,       /* more than 8 F, 8 E or 2 L records at one stamp */
+  HAZELCROOK_ORDERS_DIFFER = 7, /* the trace does not fix the order at that stamp */
+  HAZELCROOK_STATUS_LOST = 8    /* the flash's status is lost after that stamp */
+};
+
+/* Kinds of a reply (its first byte; then value, mask, match). */
+enum {
+  HAZELCROOK_NOT_PLAYED = 0,
+  HAZELCROOK_SILENT = 1,
+  HAZELCROOK_BYTE = 2,
+  HAZELCROOK_ACK = 3,
+  HAZELCROOK_NO_ACK = 4,
+  HAZELCROOK_STARTS = 5,
+  HAZELCROOK_ENDS = 6,
+  HAZELCROOK_NO_CYCLE = 7
+};
+
+/* Replays the text on the lent buffers and returns the answer.
+ *
+ * flash, eeprom: the kept bytes' values before the trace; flash_mask,
+ * eeprom_mask: a 1 for each doubtful bit, which is 0 in the value. With no
+ * dump: all values 00, all masks ff; a dump is sure: masks 00.
+ *
+ * result: the answer, the line (answers 3, 4, 5) or the stamp (6, 7, 8), and
+ * the count of replies that disagree; four bytes each, low byte first. With a
+ * result that is not 12 bytes the answer is 1 and nothing is written anywhere.
+ *
+ * Answers 1 to 5 leave every other buffer as it was. Answer 0 leaves the
+ * images and masks after the trace, and the reply of the record on line n at
+ * replies[4 * (n - 2)]; the rest of the replies is 0. Answers 6, 7, 8 leave
+ * images, masks and replies as they were before that stamp, all other replies
+ * 0. */
+uint32_t hazelcrook_replay(const uint8_t *text, size_t text_len,
+                           uint8_t *flash, size_t flash_len,
+                           uint8_t *flash_mask, size_t flash_mask_len,
+                           uint8_t *eeprom, size_t eeprom_len,
+                           uint8_t *eeprom_mask, size_t eeprom_mask_len,
+                           uint8_t *replies, size_t replies_len,
+                           uint8_t *result, size_t result_len);
+
+/* Where a page stands in its image, and how long it is: the page view for C.
+ * chip 0 is the flash (pages 0 to 127 of 256 bytes), any other the EEPROM
+ * (pages 0 to 511 of 64 bytes). Length 0 is refusal 11: a page number that the
+ * chip has not, or an image that is not 32,768 bytes. No page has length 0. */
+size_t hazelcrook_page_place(size_t flash_len, size_t eeprom_len,
+                             uint32_t chip, size_t number);
+size_t hazelcrook_page_length(size_t flash_len, size_t eeprom_len,
+                              uint32_t chip, size_t number);
+
+#ifdef __cplusplus
+}
+#endif
+
+#endif

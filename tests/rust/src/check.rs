@@ -1,0 +1,231 @@
+//! The comparison of a driver with the model and with the hand-written cases.
+
+use crate::driver::{Answer, Driver};
+use crate::fixed;
+use crate::generate::kinds::{self, Kind};
+use crate::generate::prepared::prepared;
+use crate::generate::random::Random;
+use crate::generate::reorder::reorder;
+use crate::model::call::{Call, REPLIES, RESULT};
+use crate::model::kept::KEPT;
+use crate::model::stamp::Orders;
+use crate::model::text::read;
+use crate::report::Report;
+use std::io;
+use std::thread;
+
+const BATCH: usize = 24;
+
+pub struct Plan {
+    pub command: String,
+    pub cases: usize,
+    pub seed: u64,
+}
+
+/// Generated groups: a name, how many of a thousand cases, and how to make one.
+const GENERATED: [(&str, usize, Kind); 12] = [
+    ("sessions", 140, kinds::session),
+    ("tied sessions", 100, kinds::tied_session),
+    ("tied stamps", 140, kinds::probe),
+    ("ties in prepared states", 220, prepared),
+    ("stamps at the limits", 60, kinds::limit),
+    ("damaged lines", 140, kinds::damaged),
+    ("changed bytes", 70, kinds::mutated),
+    ("board lines", 40, kinds::board_lines),
+    ("words in any order", 40, kinds::words),
+    ("random bytes", 20, kinds::random_bytes),
+    ("wrong buffers", 30, kinds::spoiled_buffers),
+    ("long traces", 10, kinds::long),
+];
+
+pub fn check(plan: &Plan) -> io::Result<bool> {
+    let mut checker = Checker { driver: Driver::start(&plan.command)?, report: Report::default(), seed: plan.seed };
+    checker.fixed_cases()?;
+    for (name, share, kind) in GENERATED {
+        checker.generated(name, (plan.cases * share / 1000).max(8), kind)?;
+    }
+    checker.joint_orders((plan.cases / 50).max(8))?;
+    checker.reordered((plan.cases / 12).max(8))?;
+    checker.prefixes((plan.cases / 3000).max(2))?;
+    let mut ending = checker.report.group("the driver's own end");
+    let status = checker.driver.stop()?;
+    ending.judge(0, || if status.success() { None } else { Some(format!("the driver ended with {}", status)) }, &[]);
+    checker.report.close(ending);
+    Ok(checker.report.finish())
+}
+
+struct Checker {
+    driver: Driver,
+    report: Report,
+    seed: u64,
+}
+
+type Outcome = (u32, Call);
+
+fn small_stamps(random: &mut Random, number: usize) -> Call {
+    match number % 2 {
+        0 => kinds::small_stamps(random, number),
+        _ => prepared(random, number / 2),
+    }
+}
+
+fn by_model(call: &Call, orders: Orders) -> Outcome {
+    let mut after = call.clone();
+    let answer = after.run(orders);
+    (answer, after)
+}
+
+impl Checker {
+    /// The driver's answers, and beside them what `expect` makes of the calls.
+    fn ask<R: Send>(&mut self, calls: &[Call], expect: impl FnOnce() -> R) -> io::Result<(Vec<Answer>, R)> {
+        let driver = &mut self.driver;
+        thread::scope(|scope| {
+            let asking = scope.spawn(move || driver.ask(calls));
+            let expected = expect();
+            let answers = asking.join().unwrap_or_else(|_| Err(io::Error::from(io::ErrorKind::Other)))?;
+            Ok((answers, expected))
+        })
+    }
+
+    /// Hand-written outcomes, asked of the driver and of the model.
+    fn fixed_cases(&mut self) -> io::Result<()> {
+        let mut group = self.report.group("written by hand");
+        let mut of_model = self.report.group("written by hand, the model");
+        for cases in fixed::all().chunks(BATCH) {
+            let calls: Vec<Call> = cases.iter().map(|case| case.call.clone()).collect();
+            let (answers, ()) = self.ask(&calls, || ())?;
+            for (case, answer) in cases.iter().zip(&answers) {
+                let expected = (case.answer, case.after.clone());
+                let named = |difference: Option<String>| difference.map(|found| format!("{}: {}", case.name, found));
+                group.judge(case.answer, || named(difference(&expected, answer)), &[&case.call]);
+                let model = Some(by_model(&case.call, Orders::EachBusWithLines));
+                of_model.judge(case.answer, || named(difference(&expected, &model)), &[&case.call]);
+            }
+        }
+        self.report.close(group);
+        self.report.close(of_model);
+        Ok(())
+    }
+
+    fn generated(&mut self, name: &str, count: usize, kind: Kind) -> io::Result<()> {
+        let mut random = self.random_for(name);
+        let calls = (0..count).map(|number| kind(&mut random, number));
+        self.compared(name, calls, Orders::EachBusWithLines)
+    }
+
+    /// Small stamps in every order of all three channels at once.
+    fn joint_orders(&mut self, count: usize) -> io::Result<()> {
+        let name = "all three channels in every order";
+        let mut random = self.random_for(name);
+        let calls = (0..count).map(|number| small_stamps(&mut random, number));
+        self.compared(name, calls, Orders::AllChannels)
+    }
+
+    /// Every prefix of some traces.
+    fn prefixes(&mut self, count: usize) -> io::Result<()> {
+        let name = "prefixes";
+        let mut random = self.random_for(name);
+        let whole: Vec<Call> = (0..count).map(|number| kinds::probe(&mut random, number)).collect();
+        let calls = whole.iter().flat_map(prefixes_of);
+        self.compared(name, calls, Orders::EachBusWithLines)
+    }
+
+    fn random_for(&self, name: &str) -> Random {
+        let mixed = name.bytes().fold(self.seed, |sum, byte| sum.wrapping_mul(31).wrapping_add(u64::from(byte)));
+        Random::seeded(mixed)
+    }
+
+    fn compared(&mut self, name: &str, calls: impl Iterator<Item = Call>, orders: Orders) -> io::Result<()> {
+        let mut group = self.report.group(name);
+        let mut calls = calls.peekable();
+        while calls.peek().is_some() {
+            let batch: Vec<Call> = calls.by_ref().take(BATCH).collect();
+            let (answers, expected) = self.ask(&batch, || batch.iter().map(|call| by_model(call, orders)).collect::<Vec<_>>())?;
+            for ((call, expected), answer) in batch.iter().zip(&expected).zip(&answers) {
+                group.judge(expected.0, || difference(expected, answer), &[call]);
+            }
+        }
+        self.report.close(group);
+        Ok(())
+    }
+
+    /// Another allowed order of the lines: the driver must say the same, with each reply at its record's new place.
+    fn reordered(&mut self, count: usize) -> io::Result<()> {
+        let mut group = self.report.group("lines in another allowed order");
+        let mut random = self.random_for("reordered");
+        for number in 0..count {
+            let kind: Kind = if number % 2 == 0 { kinds::probe } else { kinds::tied_session };
+            let call = kind(&mut random, number);
+            let trace = match read(&call.text) {
+                Ok(trace) => trace,
+                Err(_) => continue,
+            };
+            let others = [reorder(&mut random, &call.text, &trace), reorder(&mut random, &call.text, &trace)];
+            let mut calls = vec![call.clone()];
+            calls.extend(others.iter().map(|other| Call { text: other.text.clone(), ..call.clone() }));
+            let (answers, ()) = self.ask(&calls, || ())?;
+            for (place, other) in others.iter().enumerate() {
+                let expected = answers[0].as_ref().map(|outcome| moved(outcome, &other.text, &other.origins));
+                let found = || match &expected {
+                    Some(expected) => difference(expected, &answers[place + 1]),
+                    None => Some(String::from("no answer to the first order")),
+                };
+                let answer = expected.as_ref().map_or(0, |outcome| outcome.0);
+                group.judge(answer, found, &[&calls[0], &calls[place + 1]]);
+            }
+        }
+        self.report.close(group);
+        Ok(())
+    }
+}
+
+const LONGEST_PREFIX: usize = 700;
+
+fn prefixes_of(call: &Call) -> impl Iterator<Item = Call> + '_ {
+    let most = call.text.len().min(LONGEST_PREFIX);
+    (0..=most).map(move |length| Call { text: call.text[..length].to_vec(), ..call.clone() })
+}
+
+/// An outcome as it must be for the same records in another order.
+fn moved(outcome: &Outcome, text: &[u8], origins: &[usize]) -> Outcome {
+    let (answer, before) = outcome;
+    let mut after = Call { text: text.to_vec(), ..before.clone() };
+    for (place, &origin) in origins.iter().enumerate() {
+        let reply = &before.replies[4 * origin..4 * origin + 4];
+        after.replies[4 * place..4 * place + 4].copy_from_slice(reply);
+    }
+    (*answer, after)
+}
+
+const NAMES: [&str; 7] = ["text", "flash image", "flash mask", "EEPROM image", "EEPROM mask", "replies", "result"];
+
+/// The first thing in which an answer is not as expected.
+fn difference(expected: &Outcome, answer: &Answer) -> Option<String> {
+    let (number, after) = match answer {
+        Some(outcome) => outcome,
+        None => return Some(String::from("the driver ended without an answer")),
+    };
+    if *number != expected.0 {
+        return Some(format!("answer {} where {} is due", number, expected.0));
+    }
+    for which in [6, 5, 1, 2, 3, 4] {
+        let due = expected.1.buffers()[which];
+        let found = after.buffers()[which];
+        if let Some(place) = (0..due.len()).find(|&place| due[place] != found[place]) {
+            return Some(format!("{} differs{}", NAMES[which], told(which, place, due, found)));
+        }
+    }
+    None
+}
+
+fn told(which: usize, place: usize, due: &[u8], found: &[u8]) -> String {
+    match (which, due.len()) {
+        (5, REPLIES) => {
+            let first = place / 4 * 4;
+            format!(" at line {}: {:?} where {:?} is due", place / 4 + 2, &found[first..first + 4], &due[first..first + 4])
+        }
+        (6, RESULT) => format!(": {:?} where {:?} is due", found, due),
+        (1..=4, KEPT) => format!(" at {:04x}: {:02x} where {:02x} is due", place, found[place], due[place]),
+        _ => format!(" at byte {}: {:02x} where {:02x} is due", place, found[place], due[place]),
+    }
+}

@@ -1,0 +1,30 @@
+//! Cases with their whole outcome written by hand, from the rules and not from the model.
+
+mod bench_sheet;
+mod buffers;
+mod eeprom_cases;
+mod flash_cases;
+mod forms;
+mod script;
+mod ties;
+
+use crate::model::call::Call;
+
+/// A call, what it must answer, and all buffers as they must be afterwards.
+pub struct Fixed {
+    pub name: String,
+    pub call: Call,
+    pub answer: u32,
+    pub after: Call,
+}
+
+pub fn all() -> Vec<Fixed> {
+    let mut cases = Vec::new();
+    cases.extend(bench_sheet::cases());
+    cases.extend(forms::cases());
+    cases.extend(flash_cases::cases());
+    cases.extend(eeprom_cases::cases());
+    cases.extend(ties::cases());
+    cases.extend(buffers::cases());
+    cases
+}

@@ -1,0 +1,12 @@
+//! Seeded traces and calls: what a bench logger would write, ties, damage, and bytes that mean nothing.
+
+pub mod author;
+pub mod damage;
+pub mod dumps;
+pub mod eeprom_frames;
+pub mod flash_frames;
+pub mod kinds;
+pub mod prepared;
+pub mod random;
+pub mod reorder;
+pub mod samples;

@@ -1,0 +1,137 @@
+//! Program `replay` as a whole: files in a folder, the listing on its standard output.
+
+use crate::fixed;
+use crate::generate::dumps::Dumps;
+use crate::generate::kinds::{self, Kind};
+use crate::generate::random::Random;
+use crate::model::call::Call;
+use crate::model::kept::{Kept, KEPT};
+use crate::model::listing::{listing, Files};
+use crate::report::{fresh_folder, Group, Report};
+use std::fs;
+use std::io;
+use std::path::Path;
+use std::process::Command;
+
+/// The listing that `replay` owes for the files in the present folder.
+pub fn here() -> io::Result<String> {
+    let files = Files { trace: present("trace.tsv")?, flash: present("flash.bin")?, eeprom: present("eeprom.bin")? };
+    Ok(listing(&files))
+}
+
+fn present(name: &str) -> io::Result<Option<Vec<u8>>> {
+    match fs::read(name) {
+        Ok(bytes) => Ok(Some(bytes)),
+        Err(error) if error.kind() == io::ErrorKind::NotFound => Ok(None),
+        Err(error) => Err(io::Error::new(error.kind(), format!("{}: {}", name, error))),
+    }
+}
+
+pub struct Plan {
+    pub command: String,
+    pub cases: usize,
+    pub seed: u64,
+}
+
+const KINDS: [Kind; 6] = [kinds::session, kinds::probe, kinds::damaged, kinds::limit, kinds::words, kinds::tied_session];
+
+pub fn check(plan: &Plan) -> io::Result<bool> {
+    let command = whole_paths(&plan.command);
+    let mut report = Report::default();
+    let mut fixed_group = report.group("listings of texts written by hand");
+    for case in fixed::all() {
+        let files = Files { trace: Some(case.call.text.clone()), flash: None, eeprom: None };
+        judge(&mut fixed_group, &command, &files, &[&case.call]);
+    }
+    let nothing = Files { trace: None, flash: None, eeprom: None };
+    judge(&mut fixed_group, &command, &nothing, &[]);
+    report.close(fixed_group);
+
+    let mut group = report.group("listings of generated files");
+    let mut random = Random::seeded(plan.seed);
+    for number in 0..plan.cases {
+        let call = if number % 50 == 49 { kinds::long(&mut random, number / 50) } else { KINDS[number % 6](&mut random, number) };
+        let files = files_for(&mut random, &call);
+        judge(&mut group, &command, &files, &[&call]);
+    }
+    report.close(group);
+    Ok(report.finish())
+}
+
+fn files_for(random: &mut Random, call: &Call) -> Files {
+    let dumps = Dumps {
+        flash: Kept { value: call.flash.clone(), mask: call.flash_mask.clone() },
+        eeprom: Kept { value: call.eeprom.clone(), mask: call.eeprom_mask.clone() },
+    };
+    let trace = if random.percent(2) { None } else { Some(call.text.clone()) };
+    Files { trace, flash: dump(random, &dumps.flash), eeprom: dump(random, &dumps.eeprom) }
+}
+
+/// A dump file: mostly whole, now and then absent or of a wrong length.
+fn dump(random: &mut Random, kept: &Kept) -> Option<Vec<u8>> {
+    let mut bytes = kept.value.clone();
+    match random.below(20) {
+        0..=5 => return None,
+        6 => bytes.truncate(random.pick(&[0, 1, KEPT - 1])),
+        7 => bytes.push(0),
+        _ => (),
+    }
+    Some(bytes)
+}
+
+fn judge(group: &mut Group, command: &[String], files: &Files, calls: &[&Call]) {
+    let due = listing(files);
+    group.judge(answer_told(&due), || unlike(command, files, &due), calls);
+}
+
+/// The number that a listing's last line tells.
+fn answer_told(listing: &str) -> u32 {
+    let last: Vec<&str> = listing.lines().last().unwrap_or("").split('\t').collect();
+    match last.as_slice() {
+        ["settled", ..] => 0,
+        [_, number, ..] => number.parse().unwrap_or(0),
+        _ => 0,
+    }
+}
+
+/// The first line in which the program's listing is not as it must be.
+fn unlike(command: &[String], files: &Files, due: &str) -> Option<String> {
+    let found = match printed(command, files) {
+        Ok(found) => String::from_utf8_lossy(&found).into_owned(),
+        Err(error) => return Some(format!("the program did not run: {}", error)),
+    };
+    if found == due {
+        return None;
+    }
+    let place = found.lines().zip(due.lines()).take_while(|(one, other)| one == other).count();
+    let line = |text: &str| text.lines().nth(place).map(String::from);
+    Some(format!("listing line {}: {:?} where {:?} is due", place + 1, line(&found), line(due)))
+}
+
+fn printed(command: &[String], files: &Files) -> io::Result<Vec<u8>> {
+    let folder = fresh_folder()?;
+    for (name, content) in [("trace.tsv", &files.trace), ("flash.bin", &files.flash), ("eeprom.bin", &files.eeprom)] {
+        if let Some(bytes) = content {
+            fs::write(folder.join(name), bytes)?;
+        }
+    }
+    let (program, arguments) = command.split_first().ok_or(io::ErrorKind::InvalidInput)?;
+    let output = Command::new(program).args(arguments).current_dir(&folder).output()?;
+    fs::remove_dir_all(&folder)?;
+    Ok(output.stdout)
+}
+
+/// The words of a command; those that name files here are made to name them from anywhere.
+fn whole_paths(command: &str) -> Vec<String> {
+    command.split_whitespace().map(whole_path).collect()
+}
+
+fn whole_path(word: &str) -> String {
+    if !word.contains('/') {
+        return String::from(word);
+    }
+    match Path::new(word).canonicalize() {
+        Ok(path) => path.to_string_lossy().into_owned(),
+        Err(_) => String::from(word),
+    }
+}

@@ -1,0 +1,83 @@
+//! The replay as the C call shows it: seven buffers of any length, the answer and what each buffer holds afterwards.
+
+use super::kept::{Kept, KEPT};
+use super::replay::replay;
+use super::stamp::Orders;
+use super::text::read;
+
+pub const REPLIES: usize = 40_000;
+pub const RESULT: usize = 12;
+
+#[derive(Clone, Debug, PartialEq, Eq)]
+pub struct Call {
+    pub text: Vec<u8>,
+    pub flash: Vec<u8>,
+    pub flash_mask: Vec<u8>,
+    pub eeprom: Vec<u8>,
+    pub eeprom_mask: Vec<u8>,
+    pub replies: Vec<u8>,
+    pub result: Vec<u8>,
+}
+
+impl Call {
+    /// The buffers of the call in its order, the text first.
+    pub fn buffers(&self) -> [&Vec<u8>; 7] {
+        [&self.text, &self.flash, &self.flash_mask, &self.eeprom, &self.eeprom_mask, &self.replies, &self.result]
+    }
+
+    pub fn lent_buffers_mut(&mut self) -> [&mut Vec<u8>; 6] {
+        [&mut self.flash, &mut self.flash_mask, &mut self.eeprom, &mut self.eeprom_mask, &mut self.replies, &mut self.result]
+    }
+
+    /// Answers, and leaves each buffer as the call must.
+    pub fn run(&mut self, orders: Orders) -> u32 {
+        if self.has_wrong_buffer() {
+            return self.refuse(1, 0);
+        }
+        let trace = match read(&self.text) {
+            Ok(trace) => trace,
+            Err(refusal) => return self.refuse(refusal.number, refusal.line),
+        };
+        let flash = Kept { value: self.flash.clone(), mask: self.flash_mask.clone() };
+        let eeprom = Kept { value: self.eeprom.clone(), mask: self.eeprom_mask.clone() };
+        let ending = replay(&trace, flash, eeprom, orders);
+        self.write_result(ending.answer, ending.stamp, ending.count());
+        self.flash = ending.board.flash.kept.value;
+        self.flash_mask = ending.board.flash.kept.mask;
+        self.eeprom = ending.board.eeprom.kept.value;
+        self.eeprom_mask = ending.board.eeprom.kept.mask;
+        self.replies = vec![0; REPLIES];
+        for (place, reply) in self.replies.chunks_exact_mut(4).zip(&ending.replies) {
+            place.copy_from_slice(reply);
+        }
+        ending.answer
+    }
+
+    fn has_wrong_buffer(&self) -> bool {
+        let kept = [&self.flash, &self.flash_mask, &self.eeprom, &self.eeprom_mask];
+        kept.iter().any(|buffer| buffer.len() != KEPT)
+            || self.replies.len() != REPLIES
+            || self.result.len() != RESULT
+            || has_bit_in_both(&self.flash, &self.flash_mask)
+            || has_bit_in_both(&self.eeprom, &self.eeprom_mask)
+    }
+
+    fn refuse(&mut self, number: u32, line: u32) -> u32 {
+        self.write_result(number, line, 0);
+        number
+    }
+
+    fn write_result(&mut self, answer: u32, second: u32, count: u32) {
+        if self.result.len() == RESULT {
+            self.result = result_bytes(answer, second, count);
+        }
+    }
+}
+
+pub fn result_bytes(answer: u32, second: u32, count: u32) -> Vec<u8> {
+    [answer, second, count].iter().flat_map(|number| number.to_le_bytes()).collect()
+}
+
+fn has_bit_in_both(image: &[u8], mask: &[u8]) -> bool {
+    image.iter().zip(mask).any(|(value, doubt)| value & doubt != 0)
+}

@@ -1,0 +1,16 @@
+//! The replay as plain Rust, written from document 01 alone and without thrift: every order of a stamp starts from a fresh
+//! copy of a chip with its image, and everything is compared. Nothing here is shared with the proved code.
+
+pub mod call;
+pub mod eeprom;
+pub mod flash;
+pub mod kept;
+pub mod lines;
+pub mod listing;
+pub mod record;
+pub mod replay;
+pub mod stamp;
+pub mod text;
+
+#[cfg(test)]
+mod tests;
