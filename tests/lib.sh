@@ -1,5 +1,6 @@
-# What the scripts share: the toolchain, missing packages, and how x86-64 programs are built and run on this machine.
-# Rattle's programs and libraries are x86-64 code; on Arm they are linked by Debian's cross compiler and run by qemu-user.
+# What the scripts share: the toolchain, missing packages, how x86-64 programs are built and run on this machine, and the
+# tally. Rattle's programs and libraries are x86-64 code; on Arm they are linked by Debian's cross compiler and run by
+# qemu-user. A script stands in the top folder when it calls these.
 
 say() { printf '%s\n' "$*" >&2; }
 
@@ -21,18 +22,13 @@ need_rt() {
   have rt || { say "missing: rt, the Rattle toolchain (see README, 'What it needs')"; return 1; }
 }
 
-# Sets CC (a C compiler for x86-64) and RUN (what runs its programs, empty where they are native).
-choose_machine() {
+# Sets RUN, what runs an x86-64 program here: nothing where it is native.
+choose_runner() {
   case "$(uname -m)" in
-    x86_64)
-      need cc gcc libc6-dev || return 1
-      CC=cc
-      RUN=()
-      ;;
+    x86_64) RUN=() ;;
     aarch64)
-      need x86_64-linux-gnu-gcc gcc-x86-64-linux-gnu libc6-dev-amd64-cross || return 1
       need qemu-x86_64 qemu-user || return 1
-      CC=x86_64-linux-gnu-gcc
+      need /usr/x86_64-linux-gnu/lib/ld-linux-x86-64.so.2 libc6-amd64-cross || return 1
       RUN=(qemu-x86_64 -L /usr/x86_64-linux-gnu)
       ;;
     *)
@@ -40,4 +36,108 @@ choose_machine() {
       return 1
       ;;
   esac
+}
+
+# Sets CC, a C compiler for x86-64, and RUN.
+choose_machine() {
+  choose_runner || return 1
+  case "$(uname -m)" in
+    x86_64)
+      need cc gcc libc6-dev || return 1
+      CC=cc
+      ;;
+    *)
+      need x86_64-linux-gnu-gcc gcc-x86-64-linux-gnu libc6-dev-amd64-cross || return 1
+      CC=x86_64-linux-gnu-gcc
+      ;;
+  esac
+}
+
+# quietly LOG COMMAND..: what the command says goes into a file, and its end is shown where the command fails.
+quietly() {
+  local log=$1
+  shift
+  mkdir -p "$(dirname "$log")" || return 1
+  "$@" >"$log" 2>&1 && return 0
+  say "failed: $* (all of it is in $log)"
+  tail -n 30 "$log" | cut -c 1-300 >&2
+  return 1
+}
+
+LIBRARY=target/staticlib/libdesk.a
+PROGRAM=target/bin/replay
+
+# The proved library. It is proved and built anew unless it is younger than every file of the crates.
+build_library() {
+  if [ -e "$LIBRARY" ] && [ -z "$(find crates crates.txt -newer "$LIBRARY" -print -quit)" ]; then return 0; fi
+  need_rt || return 1
+  rm -f "$LIBRARY"
+  quietly target/tests/library.log rt staticlib desk
+}
+
+# The program, proved and built; rt itself knows what has changed.
+build_program() {
+  need_rt || return 1
+  quietly target/tests/program.log rt check replay
+}
+
+# cargo on tests/rust, for release, its files under target/.
+cargo_release() {
+  local what=$1
+  shift
+  CARGO_TARGET_DIR=$PWD/target/tests/rust cargo "$what" --release --locked --offline --manifest-path tests/rust/Cargo.toml "$@"
+}
+
+CHECK=target/tests/rust/release/hazelcrook-check
+
+# The plain model with its comparison.
+build_check() {
+  need cargo cargo rustc || return 1
+  quietly target/tests/check.log cargo_release build
+}
+
+# build_c PROGRAM SOURCE FLAG..: a C program with the library, every warning an error.
+build_c() {
+  local program=$1 source=$2
+  shift 2
+  quietly "$program.log" "$CC" -std=c11 -O2 -Wall -Wextra -Werror -pedantic -Iinclude "$@" -o "$program" "$source" "$LIBRARY"
+}
+
+passed=0
+failed=0
+
+pass() { passed=$((passed + 1)) && echo "passed: $*"; }
+
+fail() { failed=$((failed + 1)) && echo "FAILED: $*"; }
+
+# judge NAME COMMAND..: one check, passed where the command succeeds.
+judge() {
+  local name=$1
+  shift
+  if "$@"; then pass "$name"; else fail "$name"; return 1; fi
+}
+
+# part NAME COMMAND..: runs and shows a part whose last line 'N passed, M failed' joins the tally. A part without that line
+# has failed, and so has one that ends badly and tells of no failure.
+part() {
+  local name=$1 line last='' status=0
+  shift
+  while IFS= read -r line || [ -n "$line" ]; do
+    printf '%s\n' "$line"
+    last=$line
+  done < <("$@" 2>&1)
+  wait "$!" || status=$?
+  if ! [[ $last =~ ^([0-9]+)' passed, '([0-9]+)' failed'$ ]]; then
+    fail "$name: it ended with status $status and no tally"
+    return
+  fi
+  passed=$((passed + BASH_REMATCH[1]))
+  failed=$((failed + BASH_REMATCH[2]))
+  if [ "$status" != 0 ] && [ "${BASH_REMATCH[2]}" = 0 ]; then fail "$name: it ended with status $status"; fi
+}
+
+# The last line of a script, and its exit status: the tally.
+tally() {
+  echo "$passed passed, $failed failed"
+  [ "$failed" = 0 ]
 }

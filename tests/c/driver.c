@@ -6,37 +6,16 @@
  * output: the call's answer in four bytes, then the six lent buffers, as long as they were. Seven zero lengths, or the
  * end of the input, end the program.
  *
- * Every buffer lies between two pages that nothing may touch. In even cases it ends where the upper one begins, in odd
- * cases it begins where the lower one ends; what is left of its pages on the other side must come back unchanged. The
- * text may only be read.
+ * Every buffer lies between two pages that nothing may touch (guarded.h): in even cases against the upper one, in odd
+ * cases against the lower; what is left of its pages on the other side must come back unchanged. The text may only be
+ * read.
  */
-#define _GNU_SOURCE
+#define _DEFAULT_SOURCE
 
-#include <stdint.h>
-#include <stdio.h>
-#include <stdlib.h>
-#include <string.h>
-#include <sys/mman.h>
-#include <unistd.h>
+#include "guarded.h"
+#include "hazelcrook.h"
 
-#include "../../include/hazelcrook.h"
-
-enum { BUFFERS = 7, FILLER = 0xc5 };
-
-struct lent {
-    unsigned char *map;
-    size_t map_len;
-    unsigned char *room;
-    size_t room_len;
-    uint8_t *bytes;
-    size_t len;
-};
-
-static void fail(const char *what)
-{
-    perror(what);
-    exit(2);
-}
+enum { BUFFERS = 7 };
 
 /* 1 where all was read, 0 where the input had ended. */
 static int read_all(void *into, size_t len)
@@ -57,52 +36,6 @@ static void write_all(const void *from, size_t len)
 static uint32_t number_of(const unsigned char *four)
 {
     return (uint32_t)four[0] | (uint32_t)four[1] << 8 | (uint32_t)four[2] << 16 | (uint32_t)four[3] << 24;
-}
-
-static struct lent lend(size_t len, size_t page, int against_upper)
-{
-    struct lent lent;
-
-    lent.len = len;
-    lent.room_len = (len + page - 1) / page * page;
-    lent.map_len = lent.room_len + 2 * page;
-    lent.map = mmap(NULL, lent.map_len, PROT_NONE, MAP_PRIVATE | MAP_ANONYMOUS, -1, 0);
-    if (lent.map == MAP_FAILED)
-        fail("mmap");
-    lent.room = lent.map + page;
-    if (lent.room_len != 0 && mprotect(lent.room, lent.room_len, PROT_READ | PROT_WRITE) != 0)
-        fail("mprotect");
-    if (lent.room_len != 0)
-        memset(lent.room, FILLER, lent.room_len);
-    lent.bytes = against_upper ? lent.room + lent.room_len - len : lent.room;
-    return lent;
-}
-
-static void only_read(const struct lent *lent)
-{
-    if (lent->room_len != 0 && mprotect(lent->room, lent->room_len, PROT_READ) != 0)
-        fail("mprotect");
-}
-
-/* Whether the room beside the buffer still holds its filler. */
-static int beside_untouched(const struct lent *lent)
-{
-    const unsigned char *end = lent->room + lent->room_len;
-    const unsigned char *place;
-
-    for (place = lent->room; place < lent->bytes; place++)
-        if (*place != FILLER)
-            return 0;
-    for (place = lent->bytes + lent->len; place < end; place++)
-        if (*place != FILLER)
-            return 0;
-    return 1;
-}
-
-static void take_back(const struct lent *lent)
-{
-    if (munmap(lent->map, lent->map_len) != 0)
-        fail("munmap");
 }
 
 static uint32_t replay(const struct lent *lent)
@@ -141,7 +74,7 @@ static void play(const struct lent *lent)
 }
 
 /* One request; 0 where there is none. */
-static int serve(size_t page, int against_upper)
+static int serve(enum side side)
 {
     unsigned char lengths[4 * BUFFERS];
     struct lent lent[BUFFERS];
@@ -155,7 +88,7 @@ static int serve(size_t page, int against_upper)
     if (total == 0)
         return 0;
     for (which = 0; which < BUFFERS; which++) {
-        lent[which] = lend(number_of(lengths + 4 * which), page, against_upper);
+        lent[which] = lend(number_of(lengths + 4 * which), side);
         if (!read_all(lent[which].bytes, lent[which].len)) {
             fputs("a request broke off\n", stderr);
             exit(2);
@@ -170,10 +103,9 @@ static int serve(size_t page, int against_upper)
 
 int main(void)
 {
-    size_t page = (size_t)sysconf(_SC_PAGESIZE);
-    int against_upper = 1;
+    enum side side = AGAINST_UPPER;
 
-    while (serve(page, against_upper))
-        against_upper = !against_upper;
+    while (serve(side))
+        side = side == AGAINST_UPPER ? AGAINST_LOWER : AGAINST_UPPER;
     return 0;
 }

@@ -1,0 +1,88 @@
+-- What records played as they are written leave on the desk: the head after them, their replies in turn, and how many disagree.
+use mathlib.Core.Path.{_≡_, refl, sym, ap, ap₂, subst, _∙_}
+use mathlib.Core.List.{List, [], _∷_, _++_, append-assoc, append-nil}
+use Prim.Native.Nat.{ℕ, suc, _+_, _-_, _*_, _≤_, _<_}
+use native.Mathlib.Omega.{arith}
+use lib.ListN.{length, replicate, take, drop, getD, length-append, length-replicate}
+use Rattle.meaning.specs.Meaning.{after}
+use Rattle.meaning.specs.Listing.{said}
+use Rattle.record.specs.declared.Board.{Board}
+use Rattle.record.specs.declared.Record.{Record}
+use Rattle.record.specs.declared.Reply.{Reply}
+use Rattle.record.specs.declared.Match.{Match}
+use Rattle.record.specs.declared.Match.the-variants.{Nothing, Agrees, Disagrees}
+use Rattle.record.specs.Replies.{replyBytes}
+use Rattle.law.specs.Rest.{rest-cons, rest-nil}
+use Rattle.board.specs.declared.Controls.{Controls}
+use Rattle.image.specs.Image.{Image}
+use Rattle.machine.specs.Replies.{compared}
+use Rattle.machine.specs.Machine.{Machine, machineOf, head, playOn, saysOn}
+use Rattle.buffers.specs.Buffers.{repliesLength, repliesWith}
+use Rattle.buffers.proofs.Replies.{reply-next}
+use Rattle.call.specs.Play.{twos, replyLine, Desk, deskOf, stepDesk, runDesk}
+use Rattle.call.specs.Replay.{replyLines, countTwos, padded}
+
+-- a match counts one at the most
+pub two-most : (m : Match) → twos m ≤ 1
+two-most Nothing = omega arith
+two-most Agrees = omega arith
+two-most Disagrees = omega arith
+
+-- what the calls of `play_one` make together
+pub played-one : (b : Board) (c c′ : Controls) (f e f′ e′ : Image) (old new : List ℕ) (number count t : ℕ) (r : Record) (y : Reply) (m : Match) →
+    machineOf c′ f′ e′ ≡ playOn b (machineOf c f e) r → y ≡ saysOn b (machineOf c f e) r → m ≡ compared (r .event) y → new ≡ repliesWith number (replyBytes y m) old → t ≡ twos m →
+    deskOf c′ f′ e′ new (number + 1) (count + t) ≡ stepDesk b (deskOf c f e old number count) r
+unfolding stepDesk
+played-one b c c′ f e f′ e′ old new number count t r y m hm hy hc hn ht =
+    let k : m ≡ compared (r .event) (saysOn b (machineOf c f e) r) = hc ∙ ap (compared (r .event)) hy in
+    let g = hn ∙ ap₂ (λ (z : Reply) (x : Match). repliesWith number (replyBytes z x) old) hy k in
+    let n = ap (λ (x : ℕ). count + x) (ht ∙ ap twos k) in
+    λ i. record { machine = hm i; replies = g i; number = number + 1; count = n i }
+
+module _ (b : Board) where
+  -- a turn of `play_all`: what is left to play gives the whole
+  pub turn : (records : List Record) (many k : ℕ) (d₀ d d′ : Desk) (x : Record) → many ≤ length records → k < many → d′ ≡ stepDesk b d (getD records k x) →
+      runDesk b (drop k (take many records)) d ≡ runDesk b (take many records) d₀ → runDesk b (drop (k + 1) (take many records)) d′ ≡ runDesk b (take many records) d₀
+  unfolding runDesk
+  turn records many k d₀ d d′ x l h e q = rw e (rw (rest-cons records many k l x h) at q)
+
+  pub turned : (records : List Record) (many k : ℕ) (d₀ d : Desk) → many ≤ length records → many ≤ k → runDesk b (drop k (take many records)) d ≡ runDesk b (take many records) d₀ → d ≡ runDesk b (take many records) d₀
+  unfolding runDesk
+  turned records many k d₀ d l h q = rw (rest-nil records many k l h) at q
+
+  pub run-machine : (o : List Record) (d : Desk) → runDesk b o d .machine ≡ after (head b) o (d .machine)
+  unfolding runDesk stepDesk after
+  run-machine [] d = refl
+  run-machine (r ∷ o) d = run-machine o (stepDesk b d r)
+
+  pub run-append : (o p : List Record) (d : Desk) → runDesk b (o ++ p) d ≡ runDesk b p (runDesk b o d)
+  unfolding runDesk
+  run-append [] p d = refl
+  run-append (r ∷ o) p d = run-append o p (stepDesk b d r)
+
+  pub run-number : (o : List Record) (d : Desk) → runDesk b o d .number ≡ d .number + length o
+  unfolding runDesk stepDesk
+  run-number [] d = omega arith
+  run-number (r ∷ o) d = run-number o (stepDesk b d r) ∙ omega arith
+
+  pub run-count : (o : List Record) (d : Desk) → runDesk b o d .count ≡ d .count + countTwos o (said (head b) o (d .machine))
+  unfolding runDesk stepDesk countTwos said
+  run-count [] d = omega arith
+  run-count (r ∷ o) d = run-count o (stepDesk b d r) ∙ omega arith
+
+  -- the replies so far are w, and zeros follow
+  pub run-replies : (o : List Record) (d : Desk) (w : List ℕ) (k : ℕ) → d .replies ≡ w ++ replicate (4 * length o + k) 0 → length w ≡ 4 * d .number → length (d .replies) ≡ repliesLength →
+      d .number + length o ≤ 10000 → runDesk b o d .replies ≡ w ++ (replyLines o (said (head b) o (d .machine)) ++ replicate k 0)
+  unfolding runDesk stepDesk replyLines said
+  run-replies [] d w k e l m h = let z : 4 * 0 + k ≡ k = omega arith in e ∙ ap (λ (n : ℕ). w ++ replicate n 0) z
+  run-replies (r ∷ o) d w k e l m h =
+      let four = replyLine r (saysOn b (d .machine) r) in
+      let z : 4 * length (r ∷ o) + k ≡ 4 + (4 * length o + k) = omega arith in
+      let f : repliesWith (d .number) four (d .replies) ≡ (w ++ four) ++ replicate (4 * length o + k) 0 =
+      reply-next (d .number) (4 * length o + k) w four (d .replies) (e ∙ ap (λ (n : ℕ). w ++ replicate n 0) z) l (omega arith) m refl in
+      let g : length (w ++ four) ≡ 4 * (d .number + 1) = length-append w four ∙ omega arith in
+      let n : length (repliesWith (d .number) four (d .replies)) ≡ repliesLength =
+      ap length f ∙ length-append (w ++ four) (replicate (4 * length o + k) 0) ∙ omega (arith, length-replicate {A = ℕ} (4 * length o + k) 0, ap length e, length-append w (replicate (4 * length (r ∷ o) + k) 0), length-replicate {A = ℕ} (4 * length (r ∷ o) + k) 0) in
+      run-replies o (stepDesk b d r) (w ++ four) k f g n (omega arith)
+      ∙ append-assoc w four (replyLines o (said (head b) o (playOn b (d .machine) r)) ++ replicate k 0)
+      ∙ ap (λ (x : List ℕ). w ++ x) (sym (append-assoc four (replyLines o (said (head b) o (playOn b (d .machine) r))) (replicate k 0)))

@@ -1,0 +1,4 @@
+-- What the call answers and leaves.
+pub mod Play
+pub mod Replay
+pub mod Run

@@ -1,0 +1,105 @@
+-- What the call answers and leaves (document 01, 'Replies and stopping', the table and what follows it).
+use mathlib.Core.Path.{_≡_}
+use mathlib.Core.Bool.{Bool, true, false}
+use mathlib.Core.Logic.{_⊎_}
+use mathlib.Core.List.{List, [], _∷_, _++_}
+use Prim.Native.Nat.{ℕ, _+_, _-_}
+use lib.Dec.{eqb, ltb}
+use lib.ListN.{length, replicate}
+use Rattle.law.specs.Choice.{pick}
+use Rattle.meaning.specs.Meaning.{Reason, crowded, differ, lost, Outcome, Means, before}
+use Rattle.meaning.specs.Meaning as meaning
+use Rattle.meaning.specs.Listing.{shownAt}
+use Rattle.record.specs.declared.Board.{Board}
+use Rattle.record.specs.declared.Record.{Record}
+use Rattle.record.specs.declared.Reply.{Reply}
+use Rattle.record.specs.declared.Answer.{Answer}
+use Rattle.record.specs.declared.Answer.the-variants.{Settled, BadBuffers, TooLong, BadLine, BackInTime, Impossible, Crowded, OrdersDiffer, StatusLost}
+use Rattle.record.specs.Answers.{answerNumber}
+use Rattle.image.specs.declared.view.Chip.{Chip}
+use Rattle.image.specs.declared.view.Chip.the-variants.{Flash, Eeprom}
+use Rattle.orders.specs.declared.Verdict.{Verdict}
+use Rattle.orders.specs.declared.Verdict.the-variants as verdict
+use Rattle.machine.specs.Replies.{compared}
+use Rattle.machine.specs.Machine.{Machine, machineAtStart, head}
+use Rattle.text.specs.Texts.{textLimit, Readable, Refused}
+use Rattle.buffers.specs.Buffers.{Buffers, repliesLength, fit, resultBytes, resultAfter}
+use Rattle.call.specs.Play.{twos, replyLine}
+
+-- the answer, and what is in the buffers
+pub record Ended : Type 0 where
+  pub answer : ℕ
+  pub buffers : Buffers
+
+abbrev pub endedAs : ℕ → Buffers → Ended
+endedAs n x = record { answer = n; buffers = x }
+
+-- refusals 1 to 5 leave all untouched but the result: the answer, the line (0 for 1 and 2), and no count
+unfoldable pub refusedAs : Answer → ℕ → Buffers → Ended
+refusedAs a line x =
+    endedAs (answerNumber a)
+    (record { flash = x .flash; eeprom = x .eeprom; replies = x .replies; result = resultAfter (answerNumber a) line 0 (x .result) })
+
+-- the replies to the records, four bytes each, in the order of the lines
+unfoldable pub replyLines : List Record → List Reply → List ℕ
+replyLines [] ys = []
+replyLines (r ∷ rs) [] = []
+replyLines (r ∷ rs) (y ∷ ys) = replyLine r y ++ replyLines rs ys
+
+-- the count is the number of matches 2
+unfoldable pub countTwos : List Record → List Reply → ℕ
+countTwos [] ys = 0
+countTwos (r ∷ rs) [] = 0
+countTwos (r ∷ rs) (y ∷ ys) = twos (compared (r .event) y) + countTwos rs ys
+
+-- 'others 0'
+unfoldable pub padded : List ℕ → List ℕ
+padded w = w ++ replicate (repliesLength - length w) 0
+
+-- the number n, the stamp t, and what v shows of the records rs
+unfoldable pub shownAs : Board → ℕ → ℕ → List Record → Outcome Machine Reply → Ended
+shownAs b n t rs v =
+    endedAs n
+    (record {
+      flash = v .state .flash;
+      eeprom = v .state .eeprom;
+      replies = padded (replyLines rs (shownAt (head b) rs v));
+      result = resultBytes n t (countTwos rs (shownAt (head b) rs v));
+    })
+
+abbrev pub reasonAnswer : Reason → Answer
+reasonAnswer crowded = Crowded
+reasonAnswer differ = OrdersDiffer
+reasonAnswer lost = StatusLost
+
+-- 0 leaves the end state and all replies; 6, 7, 8 state and replies before that stamp
+unfoldable pub shown : Board → List Record → meaning.Answer Machine Reply → Ended
+shown b rs (meaning.settled v) = shownAs b (answerNumber Settled) 0 rs v
+shown b rs (meaning.stopped n t v) = shownAs b (answerNumber (reasonAnswer n)) t (before (head b) t rs) v
+
+-- The order of the checks: 1, 2, then the first bad line, then by stamp. A readable text is answered as demand 3 says: z is what the demand admits. Every text is readable or has a first bad line.
+pub record Replays (text : List ℕ) (x : Buffers) (e : Ended) : Type 0 where
+  pub unfit : fit x ≡ false → e ≡ refusedAs BadBuffers 0 x
+  pub long : fit x ≡ true → ltb textLimit (length text) ≡ true → e ≡ refusedAs TooLong 0 x
+  pub bad : fit x ≡ true → ltb textLimit (length text) ≡ false → (a : Answer) (n : ℕ) → Refused text a n → e ≡ refusedAs a n x
+  pub played : fit x ≡ true → ltb textLimit (length text) ≡ false → (b : Board) (rs : List Record) → Readable text b rs →
+      (z : meaning.Answer Machine Reply) × Means (head b) rs (machineAtStart b (x .flash) (x .eeprom)) z × (e ≡ shown b rs z)
+  pub read : fit x ≡ true → ltb textLimit (length text) ≡ false → ((b : Board) × (rs : List Record) × Readable text b rs) ⊎ ((a : Answer) × (n : ℕ) × Refused text a n)
+
+-- a verdict as an answer; one that passes stops nothing
+abbrev pub stopOf : Verdict → Answer
+stopOf verdict.Crowded = Crowded
+stopOf verdict.Differ = OrdersDiffer
+stopOf verdict.Lost = StatusLost
+stopOf verdict.Passes = Settled
+
+-- whether the replay goes on
+abbrev pub goesOn : Verdict → Bool
+goesOn verdict.Crowded = false
+goesOn verdict.Differ = false
+goesOn verdict.Lost = false
+goesOn verdict.Passes = true
+
+-- for a C caller 0 is the flash, any other number the EEPROM
+abbrev pub chipOf : ℕ → Chip
+chipOf n = pick (eqb n 0) Flash Eeprom

@@ -1,0 +1,27 @@
+-- What the loop over the stamps promises: for a readable text it ends as demand 3 says.
+use mathlib.Core.Path.{_≡_}
+use mathlib.Core.List.{List}
+use Prim.Native.Nat.{ℕ}
+use lib.ListN.{length, replicate}
+use Rattle.meaning.specs.Meaning.{Means}
+use Rattle.meaning.specs.Meaning as meaning
+use Rattle.record.specs.declared.Board.{Board}
+use Rattle.record.specs.declared.Record.{Record}
+use Rattle.record.specs.declared.Reply.{Reply}
+use Rattle.record.specs.declared.Answer.{Answer}
+use Rattle.record.specs.Answers.{answerNumber}
+use Rattle.image.specs.Image.{Image}
+use Rattle.line.specs.Boards.{spelledBoard}
+use Rattle.machine.specs.Machine.{Machine, machineAtStart, head}
+use Rattle.text.specs.Texts.{Readable}
+use Rattle.buffers.specs.Buffers.{repliesLength, resultBytes}
+use Rattle.call.specs.Replay.{Ended, endedAs, shown}
+
+-- an answer with its stamp and count, and the buffers as they are left
+abbrev pub endedWith : Answer → ℕ → ℕ → Image → Image → List ℕ → Ended
+endedWith a t count f e replies =
+    endedAs (answerNumber a) (record { flash = f; eeprom = e; replies = replies; result = resultBytes (answerNumber a) t count })
+
+pub record Runs (text : List ℕ) (first : ℕ) (b : Board) (f e : Image) (replies : List ℕ) (x : Ended) : Type 0 where
+  pub runs : (rs : List Record) → Readable text b rs → first ≡ length (spelledBoard b) → replies ≡ replicate repliesLength 0 →
+      (z : meaning.Answer Machine Reply) × Means (head b) rs (machineAtStart b f e) z × (x ≡ shown b rs z)

@@ -1,0 +1,107 @@
+use borrow.Author.Needs.{needs}
+use native.Mathlib.Omega.{arith}
+use Prim.Native.Nat.{_+_, _-_, _≤_}
+use mathlib.Core.Path.{_≡_, refl}
+use lib.ListN.{length, take, drop}
+use Rattle.image.specs.Image.{imageOf}
+use Rattle.call.specs.Play.{deskOf, runDesk}
+use Rattle.call.proofs.Playing.{turn, turned}
+use Rattle.desk.proofs.play_all.Statement.{statement}
+use Rattle.desk.proofs.play_all.Tie as tie
+use Rattle.desk.proofs.play_all.Reads as reads
+use Rattle.desk.proofs.play_all.Lts as lts
+use Rattle.desk.proofs.play_one.Reads as play-one-reads
+
+abbrev Inv-loop : tie.InvT-loop
+Inv-loop board many number count flash₀ flash-mask₀ eeprom₀ eeprom-mask₀ replies₀ records cur₀ c₀ k₀ flash flash-mask eeprom eeprom-mask replies cur c k =
+    (k ≤ many) × (c ≤ count + k) × (length flash ≡ length flash₀) × (length flash-mask ≡ length flash-mask₀) × (length eeprom ≡ length eeprom₀)
+    × (length eeprom-mask ≡ length eeprom-mask₀) × (length replies ≡ length replies₀)
+    × (runDesk board (drop k (take many records)) (deskOf cur (imageOf flash flash-mask) (imageOf eeprom eeprom-mask) replies (number + k) c)
+    ≡ runDesk board (take many records) (deskOf cur₀ (imageOf flash₀ flash-mask₀) (imageOf eeprom₀ eeprom-mask₀) replies₀ number count))
+
+abbrev μ-loop : tie.MeasureT-loop
+μ-loop board many number count flash₀ flash-mask₀ eeprom₀ eeprom-mask₀ replies₀ records cur₀ c₀ k₀ flash flash-mask eeprom eeprom-mask replies cur c k = many - k
+
+-- the array is as long as it is declared
+long : (c : tie.Start Inv-loop μ-loop) → c .args .many ≤ length (c .args .t3)
+long c = let l : length (c .args .t3) ≡ 18 = search needs in omega arith
+
+loop-holds : tie.Need-loop-holds Inv-loop μ-loop
+loop-holds c =
+    let z : c .before .before .before .before .before .args .number + 0 ≡ c .before .before .before .before .before .args .number = omega arith in
+    (omega arith, omega arith, refl, refl, refl, refl, refl, rw z refl)
+
+mul-rec : tie.Need-mul-rec Inv-loop μ-loop
+mul-rec c = search needs
+
+array-copy-out-rec : tie.Need-array-copy-out-rec Inv-loop μ-loop
+array-copy-out-rec c = search needs
+
+add-play-one : tie.Need-add-play-one Inv-loop μ-loop
+add-play-one c = omega arith
+
+play-one-requires : tie.Need-play-one-requires Inv-loop μ-loop
+play-one-requires c κs = omega arith
+
+add-k : tie.Need-add-k Inv-loop μ-loop
+add-k c = omega (arith, c .before .before .before .before .before .before .before .before .before .before .before .before .before .before .before .before .before .before .loop-test .taken, c .before .before .before .before .before .before .before .before .before .before .before .before .before .before .before .before .before .before .before .before .before .before .before .before .before .pre .0)
+
+loop-less : tie.Need-loop-less Inv-loop μ-loop
+loop-less c = omega arith
+
+loop-again : tie.Need-loop-again Inv-loop μ-loop
+loop-again c =
+    let s = c .before .before .before .before .before .before .before .before .before .before .before .before .before .before .before .before .before .before .before .before .before .before .before .before .before .args in
+    let l = c .before .before .before .before .before .before .before .before .before .before .before .before .before .before .before .before .before .before .before .loop in
+    let p = c .before .before .before .before .before .before .before .before .before .before .before .play-one .ensures in
+    let z : s .number + l .k + 1 ≡ s .number + (l .k + 1) = omega arith in
+    (
+      omega arith, omega (arith, p .1), omega arith, omega arith, omega arith, omega arith, omega arith,
+      turn _ _ _ _ _ _ _ _ (long (c .before .before .before .before .before .before .before .before .before .before .before .before .before .before .before .before .before .before .before .before .before .before .before .before .before)) (c .before .before .before .before .before .before .before .before .before .before .before .before .before .before .before .before .before .before .loop-test .taken) (rw z at (p .0)) (l .inv .7),
+    )
+
+add-t33 : tie.Need-add-t33 Inv-loop μ-loop
+add-t33 c = omega arith
+
+same-length : tie.Need-same-length Inv-loop μ-loop
+same-length c = omega arith
+
+same-length-2 : tie.Need-same-length-2 Inv-loop μ-loop
+same-length-2 c = omega arith
+
+same-length-3 : tie.Need-same-length-3 Inv-loop μ-loop
+same-length-3 c = omega arith
+
+same-length-4 : tie.Need-same-length-4 Inv-loop μ-loop
+same-length-4 c = omega arith
+
+same-length-5 : tie.Need-same-length-5 Inv-loop μ-loop
+same-length-5 c = omega arith
+
+returns : tie.Need-returns Inv-loop μ-loop
+returns c = (
+  turned _ _ _ _ _ _ (long (c .before .before .before .before .before .before .before)) (c .loop-test .left) (c .before .loop .inv .7),
+  (omega arith, omega arith),
+)
+
+pub play-all-spec : {M : Type 1} → statement M
+play-all-spec =
+    tie.close
+    (tie.spec
+    Inv-loop
+    μ-loop
+    loop-holds
+    mul-rec
+    array-copy-out-rec
+    add-play-one
+    play-one-requires
+    add-k
+    loop-less
+    loop-again
+    add-t33
+    same-length
+    same-length-2
+    same-length-3
+    same-length-4
+    same-length-5
+    returns)

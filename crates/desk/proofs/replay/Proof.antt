@@ -1,0 +1,69 @@
+use Prim.Native.Nat.{ℕ}
+use mathlib.Core.Path.{ap, _∙_}
+use lib.ListN.{replicate}
+use Rattle.walk.specs.Ends.{runs-written}
+use borrow.Author.Needs.{needs}
+use Rattle.desk.proofs.replay.Statement.{statement}
+use Rattle.desk.proofs.replay.Tie as tie
+use Rattle.desk.proofs.replay.Reads as reads
+use Rattle.desk.proofs.replay.Lts as lts
+use Rattle.buffers.proofs.clear_replies.Reads as clear-replies-reads
+use Rattle.buffers.proofs.put_result.Reads as put-result-reads
+use Rattle.desk.proofs.run.Reads as run-reads
+use Rattle.record.proofs.answer_number.Reads as answer-number-reads
+
+clear-replies-requires : tie.Need-clear-replies-requires
+clear-replies-requires c κs = search needs
+
+run-requires : tie.Need-run-requires
+run-requires c κs = search needs
+
+answer-number-requires : tie.Need-answer-number-requires
+answer-number-requires c κs = search needs
+
+cast-stamp : tie.Need-cast-stamp
+cast-stamp c = search needs
+
+put-result-requires : tie.Need-put-result-requires
+put-result-requires c κs = search needs
+
+same-length : tie.Need-same-length
+same-length c = search needs
+
+same-length-2 : tie.Need-same-length-2
+same-length-2 c = search needs
+
+same-length-3 : tie.Need-same-length-3
+same-length-3 c = search needs
+
+same-length-4 : tie.Need-same-length-4
+same-length-4 c = search needs
+
+same-length-5 : tie.Need-same-length-5
+same-length-5 c = search needs
+
+same-length-6 : tie.Need-same-length-6
+same-length-6 c = search needs
+
+returns : tie.Need-returns
+returns c =
+    let q = c .before .before .before .before .before .before .before .before .before .before .before .before .before .before .before .before .before .before .before .before .before .before .before .before .before .before .before .before .before .before .before .before .before .pre in
+    runs-written _ _ _ _ _ _ (c .before .before .before .before .before .before .before .before .before .before .before .before .before .before .before .before .run .result .answer) _ _ _ _ _ _ _ _ (c .before .before .before .before .before .before .before .before .before .before .before .before .before .before .before .before .run .ensures) (c .before .before .before .before .before .before .before .before .before .before .before .before .before .before .before .before .before .before .before .before .before .before .before .before .clear-replies .ensures ∙ ap (λ (n : ℕ). replicate n 0) (q .1))
+    (c .before .before .before .before .before .answer-number .ensures) (c .before .before .put-result .ensures) (q .2)
+
+pub replay-spec : {M : Type 1} → statement M
+replay-spec =
+    tie.close
+    (tie.spec
+    clear-replies-requires
+    run-requires
+    answer-number-requires
+    cast-stamp
+    put-result-requires
+    same-length
+    same-length-2
+    same-length-3
+    same-length-4
+    same-length-5
+    same-length-6
+    returns)

@@ -1,0 +1,327 @@
+// The replay on the caller's own buffers: what the desk's viewer, a C program, calls.
+// A stamp is judged before a byte of it is played, so nothing is ever undone and no image is copied.
+ghost use mathlib.Core.Path.{_≡_};
+ghost use Prim.Native.Nat.{_+_, _≤_, min};
+ghost use lib.ListN.{length, take, replicate};
+ghost use Rattle.image.specs.Image.{imageOf};
+ghost use Rattle.image.specs.View.{viewPlace, viewLength};
+ghost use Rattle.buffers.specs.Buffers.{buffersOf, repliesLength, resultAfter};
+ghost use Rattle.record.specs.Answers.{answerNumber};
+ghost use Rattle.call.specs.Play.{twos, deskOf, stepDesk, runDesk};
+ghost use Rattle.call.specs.Replay.{endedAs, Replays, chipOf, stopOf, goesOn};
+ghost use Rattle.call.specs.Run.{endedWith, Runs};
+use board::Controls;
+use image::view::Chip;
+use orders::Verdict;
+use record::Answer;
+use record::Board;
+use record::Match;
+use record::Record;
+use text::Checked;
+
+// 1 for a match 2, that is a reply that disagrees.
+fn two(m: Match) -> u32
+    ensures { λ r. ⌜ r ≡ twos m ⌝ }
+{
+    match m {
+        Match::Nothing => 0,
+        Match::Agrees => 0,
+        Match::Disagrees => 1,
+    }
+}
+
+struct Stepped {
+    controls: Controls,
+    count: u32,
+}
+
+// One record is played, its reply written, its match counted.
+fn play_one(
+    board: Board,
+    controls: Controls,
+    rec: Record,
+    number: usize,
+    count: u32,
+    flash: &mut [u8],
+    flash_mask: &mut [u8],
+    eeprom: &mut [u8],
+    eeprom_mask: &mut [u8],
+    replies: &mut [u8],
+) -> Stepped
+    requires { ⌜ count ≤ 1000000 ⌝ }
+    ensures { λ r. ⌜ deskOf (r .controls) (imageOf (now (flash .exit)) (now («flash_mask» .exit))) (imageOf (now (eeprom .exit)) (now («eeprom_mask» .exit))) (now (replies .exit)) (number + 1) (r .count)
+        ≡ stepDesk board (deskOf controls (imageOf (now (flash .entry)) (now («flash_mask» .entry))) (imageOf (now (eeprom .entry)) (now («eeprom_mask» .entry))) (now (replies .entry)) number count) rec ⌝ }
+    ensures { λ r. ⌜ r .count ≤ count + 1 ⌝ }
+{
+    let played = machine::play(board, controls, rec, flash, flash_mask, eeprom, eeprom_mask);
+    let reply = played.reply;
+    let next = played.controls;
+    let event = rec.event;
+    let m = machine::compare(event, reply);
+    buffers::put_reply(replies, number, reply, m);
+    Stepped {
+        controls: next,
+        count: count + two(m),
+    }
+}
+
+struct Done {
+    controls: Controls,
+    number: usize,
+    count: u32,
+}
+
+// The records of one stamp, as they are written.
+fn play_all(
+    board: Board,
+    controls: Controls,
+    records: [Record; 18],
+    many: usize,
+    number: usize,
+    count: u32,
+    flash: &mut [u8],
+    flash_mask: &mut [u8],
+    eeprom: &mut [u8],
+    eeprom_mask: &mut [u8],
+    replies: &mut [u8],
+) -> Done
+    requires { ⌜ (many ≤ 18) × (count ≤ 500000) × (number ≤ 500000) ⌝ }
+    ensures { λ r. ⌜ deskOf (r .controls) (imageOf (now (flash .exit)) (now («flash_mask» .exit))) (imageOf (now (eeprom .exit)) (now («eeprom_mask» .exit))) (now (replies .exit)) (r .number) (r .count)
+        ≡ runDesk board (take many records) (deskOf controls (imageOf (now (flash .entry)) (now («flash_mask» .entry))) (imageOf (now (eeprom .entry)) (now («eeprom_mask» .entry))) (now (replies .entry)) number count) ⌝ }
+    ensures { λ r. ⌜ (r .number ≤ number + 18) × (r .count ≤ count + 18) ⌝ }
+{
+    let mut cur = controls;
+    let mut c = count;
+    let mut k: usize = 0;
+    while k < many {
+        let rec = records[k];
+        let step = play_one(
+            board,
+            cur,
+            rec,
+            number + k,
+            c,
+            flash,
+            flash_mask,
+            eeprom,
+            eeprom_mask,
+            replies,
+        );
+        cur = step.controls;
+        c = step.count;
+        k += 1;
+    }
+    Done {
+        controls: cur,
+        number: number + k,
+        count: c,
+    }
+}
+
+// How the loop over the stamps ends.
+struct End {
+    answer: Answer,
+    stamp: u32,
+    count: u32,
+}
+
+fn stop_of(v: Verdict) -> Answer
+    ensures { λ r. ⌜ r ≡ stopOf v ⌝ }
+{
+    match v {
+        Verdict::Crowded => Answer::Crowded,
+        Verdict::Differ => Answer::OrdersDiffer,
+        Verdict::Lost => Answer::StatusLost,
+        Verdict::Passes => Answer::Settled,
+    }
+}
+
+fn passes(v: Verdict) -> bool
+    ensures { λ r. ⌜ r ≡ goesOn v ⌝ }
+{
+    match v {
+        Verdict::Crowded => false,
+        Verdict::Differ => false,
+        Verdict::Lost => false,
+        Verdict::Passes => true,
+    }
+}
+
+// 18 at the most.
+fn at_most(n: usize) -> usize
+    ensures { λ r. ⌜ r ≡ min n 18 ⌝ }
+{
+    if n < 18 { n } else { 18 }
+}
+
+// Stamp by stamp: judged on the controls, then played.
+fn run(
+    text: &[u8],
+    first: usize,
+    board: Board,
+    flash: &mut [u8],
+    flash_mask: &mut [u8],
+    eeprom: &mut [u8],
+    eeprom_mask: &mut [u8],
+    replies: &mut [u8],
+) -> End
+    requires { ⌜ length (now text) ≤ 65536 ⌝ }
+    ensures { λ r. ⌜ Runs (now (text .entry)) first board (imageOf (now (flash .entry)) (now («flash_mask» .entry))) (imageOf (now (eeprom .entry)) (now («eeprom_mask» .entry))) (now (replies .entry))
+        (endedWith (r .answer) (r .stamp) (r .count) (imageOf (now (flash .exit)) (now («flash_mask» .exit))) (imageOf (now (eeprom .exit)) (now («eeprom_mask» .exit))) (now (replies .exit))) ⌝ }
+{
+    let mut cur = Controls::start(board);
+    let mut place = first;
+    let mut number: usize = 0;
+    let mut count: u32 = 0;
+    while place < text.len() {
+        let j = stamps::judge_at(text, place, board, cur);
+        let verdict = j.verdict;
+        if !passes(verdict) {
+            return End {
+                answer: stop_of(verdict),
+                stamp: j.stamp,
+                count: count,
+            };
+        }
+        let records = j.records;
+        let many = at_most(j.count);
+        let done = play_all(
+            board,
+            cur,
+            records,
+            many,
+            number,
+            count,
+            flash,
+            flash_mask,
+            eeprom,
+            eeprom_mask,
+            replies,
+        );
+        cur = done.controls;
+        number = done.number;
+        count = done.count;
+        place = j.next;
+    }
+    End {
+        answer: Answer::Settled,
+        stamp: 0,
+        count: count,
+    }
+}
+
+// A refusal writes only the result.
+fn refuse(result: &mut [u8], answer: Answer, line: usize) -> u32
+    ensures { λ r. ⌜ (r ≡ answerNumber answer) × (now (result .exit) ≡ resultAfter (answerNumber answer) line 0 (now (result .entry))) ⌝ }
+{
+    let number = record::answer_number(answer);
+    buffers::put_result(result, number, line, 0);
+    number
+}
+
+// A readable text on buffers that fit.
+fn replay(
+    text: &[u8],
+    first: usize,
+    board: Board,
+    flash: &mut [u8],
+    flash_mask: &mut [u8],
+    eeprom: &mut [u8],
+    eeprom_mask: &mut [u8],
+    replies: &mut [u8],
+    result: &mut [u8],
+) -> u32
+    requires { ⌜ (length (now text) ≤ 65536) × (length (now replies) ≡ 40000) × (length (now result) ≡ 12) ⌝ }
+    ensures { λ r. ⌜ Runs (now (text .entry)) first board (imageOf (now (flash .entry)) (now («flash_mask» .entry))) (imageOf (now (eeprom .entry)) (now («eeprom_mask» .entry))) (replicate repliesLength 0)
+        (endedAs r (buffersOf (now (flash .exit)) (now («flash_mask» .exit)) (now (eeprom .exit)) (now («eeprom_mask» .exit)) (now (replies .exit)) (now (result .exit)))) ⌝ }
+{
+    buffers::clear_replies(replies);
+    let end = run(
+        text,
+        first,
+        board,
+        flash,
+        flash_mask,
+        eeprom,
+        eeprom_mask,
+        replies,
+    );
+    let answer = end.answer;
+    let number = record::answer_number(answer);
+    let stamp = end.stamp as usize;
+    buffers::put_result(result, number, stamp, end.count);
+    number
+}
+
+// The call: document 01's table of answers 0 to 8, on the caller's own buffers.
+#[no_mangle]
+pub extern "C" fn hazelcrook_replay(
+    text: &[u8],
+    flash: &mut [u8],
+    flash_mask: &mut [u8],
+    eeprom: &mut [u8],
+    eeprom_mask: &mut [u8],
+    replies: &mut [u8],
+    result: &mut [u8],
+) -> u32
+    ensures { λ r. ⌜ Replays (now (text .entry))
+        (buffersOf (now (flash .entry)) (now («flash_mask» .entry)) (now (eeprom .entry)) (now («eeprom_mask» .entry)) (now (replies .entry)) (now (result .entry)))
+        (endedAs r (buffersOf (now (flash .exit)) (now («flash_mask» .exit)) (now (eeprom .exit)) (now («eeprom_mask» .exit)) (now (replies .exit)) (now (result .exit)))) ⌝ }
+{
+    if !buffers::fits_all(flash, flash_mask, eeprom, eeprom_mask, replies, result) {
+        return refuse(result, Answer::BadBuffers, 0);
+    }
+    if text::too_long(text) {
+        return refuse(result, Answer::TooLong, 0);
+    }
+    let checked = text::check_text(text);
+    match checked {
+        Checked::Readable(board, first) => replay(
+            text,
+            first.at,
+            board,
+            flash,
+            flash_mask,
+            eeprom,
+            eeprom_mask,
+            replies,
+            result,
+        ),
+        Checked::Refused(answer, line) => refuse(result, answer, line),
+    }
+}
+
+fn chip_of(chip: u32) -> Chip
+    ensures { λ r. ⌜ r ≡ chipOf chip ⌝ }
+{
+    if chip == 0 {
+        return Chip::Flash;
+    }
+    Chip::Eeprom
+}
+
+// Where a page stands in its image, by the images' lengths: the page view for a C caller.
+#[no_mangle]
+pub extern "C" fn hazelcrook_page_place(
+    flash: usize,
+    eeprom: usize,
+    chip: u32,
+    number: usize,
+) -> usize
+    ensures { λ r. ⌜ r ≡ viewPlace flash eeprom (chipOf chip) number ⌝ }
+{
+    image::view::view_place(flash, eeprom, chip_of(chip), number)
+}
+
+// How long the page is; 0 is refusal 11.
+#[no_mangle]
+pub extern "C" fn hazelcrook_page_length(
+    flash: usize,
+    eeprom: usize,
+    chip: u32,
+    number: usize,
+) -> usize
+    ensures { λ r. ⌜ r ≡ viewLength flash eeprom (chipOf chip) number ⌝ }
+{
+    image::view::view_length(flash, eeprom, chip_of(chip), number)
+}

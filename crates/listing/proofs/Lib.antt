@@ -1,0 +1,9 @@
+-- What the proofs of `listing` share, and its theorems.
+pub mod Stores
+pub mod Putting
+pub mod Lengths
+pub mod Standing
+pub mod Which
+pub mod Walk
+pub mod Whole
+pub mod Theorems

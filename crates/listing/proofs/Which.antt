@@ -1,0 +1,68 @@
+-- Which records are listed: there is exactly one list of them, it has no more records than there are replies, and its lines are so many bytes at most.
+use Prim.Native.Nat.{ℕ, suc, zero, _+_, _*_, _≤_, _<_}
+use native.Mathlib.Omega.{arith}
+use mathlib.Core.Path.{_≡_, refl, sym, ap, subst, _∙_}
+use mathlib.Core.Bool.{false}
+use mathlib.Core.Logic.{⊎-elim}
+use mathlib.Core.List.{List, [], _∷_}
+use lib.ListN.{length, getD, length-append, List·getD-eq-default}
+use Rattle.law.specs.Choice.{split, lt-or-le, true-not-false}
+use Rattle.record.specs.declared.Record.{Record}
+use Rattle.field.specs.Spelling.{room}
+use Rattle.field.proofs.Reading.{stands-length}
+use Rattle.line.specs.Records.{spelled}
+use Rattle.line.proofs.OutputLaws.{spelled-length-min}
+use Rattle.line.proofs.Theorems.{record-same}
+use Rattle.listing.specs.Bytes.{replyOf, wasPlayed, replyAt, matchAt}
+use Rattle.listing.specs.Listing.{Listed, recordLines}
+use Rattle.listing.proofs.Lengths.{record-length}
+use Rattle.listing.proofs.Standing.{RecordHere, record-here}
+
+-- a record for which there are no four bytes was not played
+pub beyond : (replies : List ℕ) (k : ℕ) → length replies ≤ 4 * k → wasPlayed (replyAt replies k) ≡ false
+unfolding replyAt
+beyond replies k h = ap (λ (z : ℕ). wasPlayed (replyOf z (getD replies (4 * k + 1) 0) (getD replies (4 * k + 2) 0))) (List·getD-eq-default replies 0 {n = 4 * k} h)
+
+module _ (text replies : List ℕ) where
+  -- at most one list
+  pub one-listed : (at k : ℕ) (rs xs : List Record) → Listed text replies at k rs → Listed text replies at k xs → rs ≡ xs
+  unfolding Listed
+  one-listed at k [] [] p q = refl
+  one-listed at k [] (x ∷ xs) p q = absurd (true-not-false (sym (q .2) ∙ p x (q .0) (q .1)))
+  one-listed at k (r ∷ rs) [] p q = absurd (true-not-false (sym (p .2) ∙ q r (p .0) (p .1)))
+  one-listed at k (r ∷ rs) (x ∷ xs) p q =
+      let e = record-same text at r x (p .0) (q .0) (p .1) (q .1) in
+      let es = one-listed (at + length (spelled r)) (suc k) rs xs (p .3) (subst (λ (z : Record). Listed text replies (at + length (spelled z)) (suc k) xs) (sym e) (q .3)) in
+      λ i. e i ∷ es i
+
+  -- at least one: as many steps as the text has bytes left are enough
+  some-from : (n at k : ℕ) → length text < at + n → (rs : List Record) × Listed text replies at k rs
+  unfolding Listed RecordHere
+  some-from zero at k h = ([], λ r o s. absurd (omega (arith, spelled-length-min r (o .0), stands-length text (spelled r) at s (omega (arith, spelled-length-min r (o .0))))))
+  some-from (suc n) at k h =
+      ⊎-elim (λ z. split (wasPlayed (replyAt replies k))
+      (λ e. let t = some-from n (at + length (spelled (z .0))) (suc k) (omega (arith, spelled-length-min (z .0) (z .1 .0))) in (z .0 ∷ t .0, (z .1, z .2, e, t .1)))
+      (λ e. ([], λ r o s. e)))
+      (λ m. ([], λ r o s. absurd (m (r, o, s))))
+      (record-here text at)
+
+  pub some-listed : (at k : ℕ) → (rs : List Record) × Listed text replies at k rs
+  some-listed at k = some-from (suc (length text)) at k (omega arith)
+
+  -- no more records than replies
+  pub few : (most : ℕ) → length replies ≤ 4 * most → (at k : ℕ) (rs : List Record) → k ≤ most → Listed text replies at k rs → k + length rs ≤ most
+  unfolding Listed
+  few most h at k [] l p = omega arith
+  few most h at k (r ∷ rs) l p =
+      ⊎-elim (λ (m : k < most). let t = few most h (at + length (spelled r)) (suc k) rs m (p .3) in omega arith)
+      (λ (m : most ≤ k). absurd (true-not-false (sym (p .2) ∙ beyond replies k (omega arith))))
+      (lt-or-le k most)
+
+  -- the lines of the records
+  pub lines-length : (at k : ℕ) (rs : List Record) → Listed text replies at k rs → k + length rs ≤ 10000 → length (recordLines replies k rs) ≤ room * length rs
+  unfolding Listed recordLines
+  lines-length at k [] p h = omega arith
+  lines-length at k (r ∷ rs) p h =
+      let t = lines-length (at + length (spelled r)) (suc k) rs (p .3) (omega arith) in
+      let w = record-length (k + 2) (r .stamp) (omega arith) (p .0 .0) (replyAt replies k) (matchAt replies k) in
+      simp length-append (omega arith)

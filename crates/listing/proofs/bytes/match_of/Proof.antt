@@ -1,0 +1,18 @@
+use borrow.Author.Tests.{eq-eqb, ne-eqb}
+use borrow.Author.Tests.{eq-eqb, ne-eqb}
+use Rattle.listing.proofs.bytes.match_of.Statement.{statement}
+use Rattle.listing.proofs.bytes.match_of.Tie as tie
+use Rattle.listing.proofs.bytes.match_of.Reads as reads
+use Rattle.listing.proofs.bytes.match_of.Lts as lts
+
+returns : tie.Need-returns
+returns c = simp (eq-eqb _ _ (c .if1 .taken))
+
+returns-2 : tie.Need-returns-2
+returns-2 c = simp (ne-eqb _ _ (c .before .if1 .left), eq-eqb _ _ (c .if2 .taken))
+
+returns-3 : tie.Need-returns-3
+returns-3 c = simp (ne-eqb _ _ (c .before .if1 .left), ne-eqb _ _ (c .if2 .left))
+
+pub match-of-spec : {M : Type 1} → statement M
+match-of-spec = tie.close (tie.spec returns returns-2 returns-3)

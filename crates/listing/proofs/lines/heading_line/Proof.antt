@@ -1,0 +1,24 @@
+use Rattle.listing.proofs.Putting.{put-heading}
+use borrow.Author.Needs.{needs}
+use Rattle.listing.proofs.lines.heading_line.Statement.{statement}
+use Rattle.listing.proofs.lines.heading_line.Tie as tie
+use Rattle.listing.proofs.lines.heading_line.Reads as reads
+use Rattle.listing.proofs.lines.heading_line.Lts as lts
+use Rattle.field.proofs.no_bytes.Reads as no-bytes-reads
+use Rattle.field.proofs.put_word.Reads as put-word-reads
+
+no-bytes-requires : tie.Need-no-bytes-requires
+no-bytes-requires c κs = search needs
+
+slice-aggregate-put-word : tie.Need-slice-aggregate-put-word
+slice-aggregate-put-word c = search needs
+
+put-word-requires : tie.Need-put-word-requires
+put-word-requires c κs = search needs
+
+returns : tie.Need-returns
+returns c = put-heading (c .before .before .no-bytes .ensures) (c .put-word .ensures)
+
+pub heading-line-spec : {M : Type 1} → statement M
+heading-line-spec =
+    tie.close (tie.spec no-bytes-requires slice-aggregate-put-word put-word-requires returns)

@@ -1,0 +1,33 @@
+use Rattle.listing.proofs.Putting.{put-byte}
+use borrow.Author.Needs.{needs}
+use Rattle.listing.proofs.lines.put_byte.Statement.{statement}
+use Rattle.listing.proofs.lines.put_byte.Tie as tie
+use Rattle.listing.proofs.lines.put_byte.Reads as reads
+use Rattle.listing.proofs.lines.put_byte.Lts as lts
+use Rattle.field.proofs.put_hex.Reads as put-hex-reads
+use Rattle.field.proofs.put_word.Reads as put-word-reads
+
+put-hex-requires : tie.Need-put-hex-requires
+put-hex-requires c κs = search needs
+
+slice-aggregate-put-word : tie.Need-slice-aggregate-put-word
+slice-aggregate-put-word c = search needs
+
+put-word-requires : tie.Need-put-word-requires
+put-word-requires c κs = search needs
+
+put-hex-requires-2 : tie.Need-put-hex-requires-2
+put-hex-requires-2 c κs = search needs
+
+returns : tie.Need-returns
+returns c = put-byte _ _ _ (c .before .before .before .put-hex .ensures) (c .before .put-word .ensures) (c .put-hex2 .ensures)
+
+pub put-byte-spec : {M : Type 1} → statement M
+put-byte-spec =
+    tie.close
+    (tie.spec
+    put-hex-requires
+    slice-aggregate-put-word
+    put-word-requires
+    put-hex-requires-2
+    returns)

@@ -1,0 +1,72 @@
+// What is printed of a replay (document 01, 'One listing in full'), formatted into a lent buffer: a heading, a line for each record that was played, and a
+// last line; or a refusal alone.
+ghost use mathlib.Core.Path.{_≡_};
+ghost use Prim.Native.Nat.{_≤_};
+ghost use lib.ListN.{length};
+ghost use Rattle.field.specs.Spelling.{room};
+ghost use Rattle.listing.specs.Listing.{Lists, ListsPlayed, ListsRecords, listingRoom, replyRoom};
+
+mod bytes;
+mod lines;
+mod output;
+
+use field::Cursor;
+use line::ReadRecord;
+
+// A line for each record that was played, from a place of the output on; the place after them. The replies have four bytes for each of 10,000 records.
+fn list_records(text: &[u8], replies: &[u8], out: &mut [u8], from: usize) -> usize
+    requires { ⌜ (length (now replies) ≡ replyRoom) × (from ≤ room) × (listingRoom ≤ length (now out)) ⌝ }
+    ensures { λ r. ⌜ ListsRecords (now (text .entry)) (now (replies .entry)) (now (out .entry)) from (now (out .exit)) r ⌝ }
+{
+    let mut at = from;
+    let mut c = Cursor { at: 13 };
+    let mut k: usize = 0;
+    while k < 10000 {
+        let ReadRecord::Value(rec, next) = line::read_record(text, c) else {
+            return at;
+        };
+        let reply = bytes::reply_at(replies, k);
+        if !bytes::was_played(reply) {
+            return at;
+        }
+        // Record k is on line k + 2.
+        let number = (k + 2) as u32;
+        let line = lines::record_line(number, rec.stamp, reply, bytes::match_at(replies, k));
+        at = output::copy_line(line, out, at);
+        c = next;
+        k += 1;
+    }
+    at
+}
+
+// The heading and the records' lines; the place after them.
+fn list_played(text: &[u8], replies: &[u8], out: &mut [u8]) -> usize
+    requires { ⌜ (length (now replies) ≡ replyRoom) × (listingRoom ≤ length (now out)) ⌝ }
+    ensures { λ r. ⌜ ListsPlayed (now (text .entry)) (now (replies .entry)) (now (out .entry)) (now (out .exit)) r ⌝ }
+{
+    let from = output::copy_line(lines::heading_line(), out, 0);
+    list_records(text, replies, out, from)
+}
+
+// Formats the listing of a replayed text from its replies and its result, and gives back its length. The output has to have room for any listing.
+pub fn list(text: &[u8], replies: &[u8], result: &[u8], out: &mut [u8]) -> usize
+    ensures { λ r. ⌜ Lists (now (text .entry)) (now (replies .entry)) (now (result .entry)) (now (out .entry)) (now (out .exit)) r ⌝ }
+{
+    if replies.len() != 40000 {
+        return 0;
+    }
+    if result.len() != 12 {
+        return 0;
+    }
+    if out.len() < 320064 {
+        return 0;
+    }
+    let answer = bytes::number_at(result, 0);
+    let place = bytes::number_at(result, 4);
+    let count = bytes::number_at(result, 8);
+    if bytes::is_refusal(answer) {
+        return output::copy_line(lines::refused_line(answer, place), out, 0);
+    }
+    let at = list_played(text, replies, out);
+    output::copy_line(lines::last_line(answer, place, count), out, at)
+}

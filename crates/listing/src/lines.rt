@@ -1,0 +1,99 @@
+// The lines of a listing, each put together before it is copied out.
+ghost use mathlib.Core.Path.{_≡_};
+ghost use Rattle.field.specs.Spelling.{noBytes, putAll};
+ghost use Rattle.listing.specs.Lines.{heading, byteText, replyText, matchText, recordLine, settledLine, stopLine, lastLine, refusedLine};
+use field::Spelling;
+use record::Match;
+use record::Reply;
+
+pub fn heading_line() -> Spelling
+    ensures { λ r. ⌜ r ≡ putAll noBytes heading ⌝ }
+{
+    field::put_word(field::no_bytes(), b"line\tstamp\treply\tmatch\n")
+}
+
+// value/mask
+fn put_byte(s: Spelling, value: u8, mask: u8) -> Spelling
+    ensures { λ r. ⌜ r ≡ putAll s (byteText value mask) ⌝ }
+{
+    let s1 = field::put_hex(s, value);
+    let s2 = field::put_word(s1, b"/");
+    field::put_hex(s2, mask)
+}
+
+fn put_reply(s: Spelling, reply: Reply) -> Spelling
+    ensures { λ r. ⌜ r ≡ putAll s (replyText reply) ⌝ }
+{
+    match reply {
+        Reply::NotPlayed => s,
+        Reply::Silent => field::put_word(s, b"-"),
+        Reply::Byte(value, mask) => put_byte(s, value, mask),
+        Reply::Ack => field::put_word(s, b"ack"),
+        Reply::NoAck => field::put_word(s, b"no"),
+        Reply::Starts => field::put_word(s, b"starts"),
+        Reply::Ends => field::put_word(s, b"ends"),
+        Reply::NoCycle => field::put_word(s, b"idle"),
+    }
+}
+
+fn put_match(s: Spelling, found: Match) -> Spelling
+    ensures { λ r. ⌜ r ≡ putAll s (matchText found) ⌝ }
+{
+    match found {
+        Match::Nothing => field::put_word(s, b"."),
+        Match::Agrees => field::put_word(s, b"="),
+        Match::Disagrees => field::put_word(s, b"!"),
+    }
+}
+
+// Line number, stamp, reply and match.
+pub fn record_line(number: u32, stamp: u32, reply: Reply, found: Match) -> Spelling
+    ensures { λ r. ⌜ r ≡ putAll noBytes (recordLine number stamp reply found) ⌝ }
+{
+    let s1 = field::put_decimal(field::no_bytes(), number);
+    let s2 = field::put_word(s1, b"\t");
+    let s3 = field::put_decimal(s2, stamp);
+    let s4 = field::put_word(s3, b"\t");
+    let s5 = put_reply(s4, reply);
+    let s6 = field::put_word(s5, b"\t");
+    let s7 = put_match(s6, found);
+    field::put_word(s7, b"\n")
+}
+
+fn settled_line(count: u32) -> Spelling
+    ensures { λ r. ⌜ r ≡ putAll noBytes (settledLine count) ⌝ }
+{
+    let s1 = field::put_word(field::no_bytes(), b"settled\t");
+    let s2 = field::put_decimal(s1, count);
+    field::put_word(s2, b"\n")
+}
+
+fn stop_line(number: u32, stamp: u32) -> Spelling
+    ensures { λ r. ⌜ r ≡ putAll noBytes (stopLine number stamp) ⌝ }
+{
+    let s1 = field::put_word(field::no_bytes(), b"stop\t");
+    let s2 = field::put_decimal(s1, number);
+    let s3 = field::put_word(s2, b"\t");
+    let s4 = field::put_decimal(s3, stamp);
+    field::put_word(s4, b"\n")
+}
+
+// The last line of what was played.
+pub fn last_line(answer: u32, stamp: u32, count: u32) -> Spelling
+    ensures { λ r. ⌜ r ≡ putAll noBytes (lastLine answer stamp count) ⌝ }
+{
+    if answer == 0 {
+        return settled_line(count);
+    }
+    stop_line(answer, stamp)
+}
+
+pub fn refused_line(number: u32, line: u32) -> Spelling
+    ensures { λ r. ⌜ r ≡ putAll noBytes (refusedLine number line) ⌝ }
+{
+    let s1 = field::put_word(field::no_bytes(), b"refused\t");
+    let s2 = field::put_decimal(s1, number);
+    let s3 = field::put_word(s2, b"\t");
+    let s4 = field::put_decimal(s3, line);
+    field::put_word(s4, b"\n")
+}

@@ -1,0 +1,2 @@
+-- What the proofs of `replay` share.
+pub mod Cases

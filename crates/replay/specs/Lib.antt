@@ -1,0 +1,2 @@
+-- What is known of the files that were read.
+pub mod Files

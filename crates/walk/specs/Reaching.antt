@@ -1,0 +1,282 @@
+-- The loop over the stamps: what holds when it comes to a stamp, and how it ends. By Walk: each stamp that passes puts its outcome behind what was shown.
+use mathlib.Core.Path.{_≡_, refl, sym, ap, ap₂, subst, _∙_}
+use mathlib.Core.Bool.{Bool, true, false}
+use mathlib.Core.Logic.{_⊎_, inl, inr, ⊎-elim}
+use mathlib.Core.List.{List, [], _∷_, _++_, append-assoc, append-nil}
+use Prim.Native.Nat.{ℕ, _+_, _-_, _*_, _≤_, _<_, min}
+use native.Mathlib.Omega.{arith}
+use lib.ListN.{length, take, drop, replicate, length-append, length-replicate}
+use Rattle.law.specs.Choice.{true-not-false}
+use Rattle.meaning.specs.Lists.{keep, filter, All, all-map, all-append, front-in}
+use Rattle.meaning.specs.Meaning.{Channel, F, E, L, same, Reason, crowded, differ, lost, Outcome, of, NeverBack, Allowed, Alike, Crowded, after, outcome, before, Means}
+use Rattle.meaning.specs.Meaning as meaning
+use Rattle.meaning.specs.Groups.{andThen}
+use Rattle.meaning.specs.Steps.{outcome-append, before-here, means-crowded, means-differ, means-lost}
+use Rattle.meaning.specs.Walk.{Reached, reached-start, reached-stamp, reached-stop, reached-end, run-above, back-behind}
+use Rattle.meaning.specs.Listing.{said, shownAt, laid-said}
+use borrow.Author.Tests.{lt-ltb}
+use Rattle.record.specs.declared.Board.{Board}
+use Rattle.record.specs.declared.Record.{Record}
+use Rattle.record.specs.declared.Reply.{Reply}
+use Rattle.record.specs.declared.Answer.{Answer}
+use Rattle.record.specs.declared.Event.{Event}
+use Rattle.record.specs.Answers.{answerNumber}
+use Rattle.board.specs.declared.Controls.{Controls}
+use Rattle.board.specs.Play.{startOf, lostOf}
+use Rattle.image.specs.Image.{Image}
+use Rattle.line.specs.Boards.{spelledBoard}
+use Rattle.orders.specs.declared.Held.{Held}
+use Rattle.orders.specs.declared.Verdict.{Verdict}
+use Rattle.orders.specs.declared.Verdict.the-variants as verdict
+use Rattle.orders.specs.Verdicts.{Few, TooMany, AllAgree, lastOf, Judged}
+use Rattle.machine.specs.Machine.{Machine, machineAtStart, head, channelOf}
+use Rattle.text.specs.Stamps as stamps-text
+use Rattle.text.specs.Texts.{spelledAll, AllOk, Readable, textLimit}
+use Rattle.text.proofs.Theorems.{first-place, few-records, at-end}
+use Rattle.verdict.specs.Verdict.{Good, good-start, good-after, HoldsMost, Holds, holds-all, holds-few, too-many, not-crowded, agree-alike, alike-agree, as-written, lost-as}
+use Rattle.buffers.specs.Buffers.{repliesLength, resultBytes}
+use Rattle.stamps.specs.declared.Judgement.{Judgement}
+use Rattle.stamps.specs.Gathering.{Over}
+use Rattle.stamps.specs.Judging.{Found, JudgesAt}
+use Rattle.call.specs.Play.{Desk, deskOf, runDesk}
+use Rattle.call.specs.Replay.{Ended, endedAs, replyLines, countTwos, padded, shownAs, shown, reasonAnswer, stopOf, goesOn}
+use Rattle.call.specs.Run.{endedWith, Runs}
+use Rattle.call.proofs.Playing.{run-machine, run-append, run-count, run-replies}
+
+-- ---- stamps in file order never go back
+above : (t : ℕ) (rs : List Record) → stamps-text.NeverBack t rs → All (λ (r : Record). t ≤ r .stamp) rs
+unfolding stamps-text.NeverBack All
+above t [] h = tt
+above t (r ∷ rs) h = let l = h .0 in (l, all-map _ _ (λ x k. omega arith) rs (above (r .stamp) rs (h .1)))
+
+never-back : (b : Board) (t : ℕ) (rs : List Record) → stamps-text.NeverBack t rs → NeverBack (head b) rs
+unfolding stamps-text.NeverBack NeverBack
+never-back b t [] h = tt
+never-back b t (r ∷ rs) h = (above (r .stamp) rs (h .1), never-back b (r .stamp) rs (h .1))
+
+-- ---- the records of a stamp are those of its channels
+one-more : (c : Channel) (r : Record) (f e l : List Record) (n : ℕ) → n ≡ length f + (length e + length l) →
+    n + 1 ≡ length (keep (same F c) r f) + (length (keep (same E c) r e) + length (keep (same L c) r l))
+unfolding keep
+one-more F r f e l n h = omega arith
+one-more E r f e l n h = omega arith
+one-more L r f e l n h = omega arith
+
+channel-count : (b : Board) (p : List Record) → length p ≡ length (of (head b) F p) + (length (of (head b) E p) + length (of (head b) L p))
+unfolding filter
+channel-count b [] = refl
+channel-count b (r ∷ p) =
+    let k : length (r ∷ p) ≡ length p + 1 = omega arith in
+    k ∙ one-more (channelOf (r .event)) r _ _ _ (length p) (channel-count b p)
+
+-- ---- what is shown of records played as they are written
+module _ (b : Board) (f e : Image) where
+  abbrev pub started : Desk
+  started = deskOf (startOf b) f e (replicate repliesLength 0) 0 0
+
+  abbrev pub start : Machine
+  start = machineAtStart b f e
+
+  lines-long : (o : List Record) (s : Machine) → length (replyLines o (said (head b) o s)) ≡ 4 * length o
+  unfolding replyLines said
+  lines-long [] s = refl
+  lines-long (r ∷ o) s = let ih = lines-long o (head b .play s r) in omega arith
+
+  pub shows : (n t : ℕ) (o : List Record) (d : Desk) → d ≡ runDesk b o started → length o ≤ 10000 →
+      endedAs n (record { flash = d .machine .flash; eeprom = d .machine .eeprom; replies = d .replies; result = resultBytes n t (d .count) }) ≡ shownAs b n t o (outcome (head b) o start)
+  unfolding shownAs padded
+  shows n t o d p l =
+      let m : d .machine ≡ after (head b) o start = ap (λ (x : Desk). x .machine) p ∙ run-machine b o started in
+      let y : said (head b) o start ≡ shownAt (head b) o (outcome (head b) o start) = sym (laid-said (head b) o start) in
+      let c : d .count ≡ countTwos o (shownAt (head b) o (outcome (head b) o start)) =
+          ap (λ (x : Desk). x .count) p ∙ run-count b o started ∙ omega arith ∙ ap (countTwos o) y in
+      let k : repliesLength ≡ 4 * length o + (repliesLength - 4 * length o) = omega arith in
+      let g : d .replies ≡ replyLines o (said (head b) o start) ++ replicate (repliesLength - 4 * length o) 0 =
+          ap (λ (x : Desk). x .replies) p
+          ∙ run-replies b o started [] (repliesLength - 4 * length o) (ap (λ (x : ℕ). replicate x 0) k) refl (length-replicate {A = ℕ} repliesLength 0) (omega arith) in
+      let h = g ∙ ap (λ (x : ℕ). replyLines o (said (head b) o start) ++ replicate (repliesLength - x) 0) (sym (lines-long o start))
+          ∙ ap (λ (ys : List Reply). replyLines o ys ++ replicate (repliesLength - length (replyLines o ys)) 0) y in
+      λ i. endedAs n (record { flash = m i .flash; eeprom = m i .eeprom; replies = h i; result = resultBytes n t (c i) })
+
+-- ---- the loop has come to the place with the desk d
+module _ (text : List ℕ) (b : Board) (rs : List Record) (f e : Image) (readable : Readable text b rs) where
+  pub record Reaching (place : ℕ) (d : Desk) : Type 0 where
+    pub done : List Record
+    pub rest : List Record
+    pub whole : rs ≡ done ++ rest
+    pub ok : AllOk rest
+    pub left : drop place text ≡ spelledAll rest
+    pub played : d ≡ runDesk b done (started b f e)
+    pub apart : All (λ (r : Record). All (λ (s : Record). r .stamp < s .stamp) rest) done
+    pub reached : Reached (head b) rs (start b f e) rest (outcome (head b) done (start b f e))
+
+  pub reaching-starts : (place : ℕ) → place ≡ length (spelledBoard b) → Reaching place (started b f e)
+  unfolding runDesk All
+  reaching-starts place h = record {
+    done = [];
+    rest = rs;
+    whole = refl;
+    ok = readable .fits;
+    left = subst (λ (k : ℕ). drop k text ≡ spelledAll rs) (sym h) (first-place readable);
+    played = refl;
+    apart = tt;
+    reached = reached-start (head b) rs (start b f e) refl;
+  }
+
+  -- the answer that the demand admits, and what it shows
+  abbrev pub Answered : Ended → Type 0
+  Answered x = (z : meaning.Answer Machine Reply) × Means (head b) rs (start b f e) z × (x ≡ shown b rs z)
+
+  back : NeverBack (head b) rs
+  back = never-back b 0 rs (readable .acceptable .never-back)
+
+  module _ (few : length rs ≤ 9360) (place : ℕ) (d : Desk) (r : Reaching place d) where
+    done-few : length (r .done) ≤ 10000
+    done-few = omega (arith, ap length (r .whole), length-append (r .done) (r .rest))
+
+    machine-is : d .machine ≡ after (head b) (r .done) (start b f e)
+    machine-is = ap (λ (x : Desk). x .machine) (r .played) ∙ run-machine b (r .done) (started b f e)
+
+    -- the text ends here
+    pub reaching-ends : length text ≤ place → Answered (endedWith Answer.Settled 0 (d .count) (d .machine .flash) (d .machine .eeprom) (d .replies))
+    unfolding shown
+    reaching-ends h =
+        let n : r .rest ≡ [] = at-end text place (r .rest) (r .left) h (r .ok) in
+        let w : rs ≡ r .done = r .whole ∙ ap (λ (l : List Record). r .done ++ l) n ∙ append-nil (r .done) in
+        (
+          meaning.settled (outcome (head b) (r .done) (start b f e)),
+          reached-end (head b) rs (start b f e) _ (subst (λ (l : List Record). Reached (head b) rs (start b f e) l (outcome (head b) (r .done) (start b f e))) n (r .reached)),
+          shows b f e 0 0 (r .done) d (r .played) done-few ∙ ap (λ (l : List Record). shownAs b 0 0 l (outcome (head b) (r .done) (start b f e))) (sym w),
+        )
+
+    module _ (c : Controls) (here : d .machine .controls ≡ c) (j : Judgement) (x : Found text b c (r .rest) j) where
+      abbrev p : List Record
+      p = x .first ∷ x .others
+
+      abbrev m : Machine
+      m = after (head b) (r .done) (start b f e)
+
+      controls-are : c ≡ m .controls
+      controls-are = sym here ∙ ap (λ (k : Machine). k .controls) machine-is
+
+      good : Good (m .controls)
+      good = good-after b (r .done) (start b f e) (good-start b (readable .board .0 .0))
+
+      judged : Judged b (x .held) (m .controls) (j .verdict)
+      judged = subst (λ (k : Controls). Judged b (x .held) k (j .verdict)) controls-are (x .judged)
+
+      rest-back : NeverBack (head b) (p ++ x .rest)
+      rest-back = subst (NeverBack (head b)) (x .whole) (back-behind (head b) (r .done) (r .rest) (subst (NeverBack (head b)) (r .whole) back))
+
+      -- what follows the stamp is above it
+      above-by : (l : List Record) → x .rest ≡ l → (l ≡ []) ⊎ ((s : Record) × (k : List Record) × (l ≡ s ∷ k) × (s .stamp ≡ j .stamp → ⊥)) → All (λ (s : Record). j .stamp < s .stamp) l
+      unfolding All
+      above-by l q (inl n) = subst (All (λ (s : Record). j .stamp < s .stamp)) (sym n) tt
+      above-by l q (inr (s, k, n, h)) =
+          let t = x .same .0 in
+          subst (All (λ (s : Record). j .stamp < s .stamp)) (sym n)
+          (subst (λ (u : ℕ). All (λ (s : Record). u < s .stamp) (s ∷ k)) t
+          (run-above (head b) (x .first) (x .others) s k (subst (λ (l : List Record). NeverBack (head b) (p ++ l)) (q ∙ n) rest-back) (λ e. h (e ∙ t))))
+
+      higher : All (λ (s : Record). j .stamp < s .stamp) (x .rest)
+      higher = above-by (x .rest) refl (x .over .over)
+
+      -- all that was played is below the stamp
+      lower : All (λ (s : Record). s .stamp < j .stamp) (r .done)
+      unfolding All
+      lower =
+          all-map _ _ (λ s k. let z = subst (All (λ (u : Record). s .stamp < u .stamp)) (x .whole) k .0 in let t = x .same .0 in omega (arith, z, t)) (r .done) (r .apart)
+
+      before-is : before (head b) (j .stamp) rs ≡ r .done
+      before-is =
+          ap (before (head b) (j .stamp)) (r .whole ∙ ap (λ (l : List Record). r .done ++ l) (x .whole))
+          ∙ front-in _ (r .done) (p ++ x .rest) (all-map _ _ (λ s k. lt-ltb (s .stamp) (j .stamp) k) (r .done) lower)
+          ∙ ap (λ (l : List Record). r .done ++ l) (before-here (head b) p (x .rest) (j .stamp) (x .same) higher)
+          ∙ append-nil (r .done)
+
+      sure : lostOf (m .controls) ≡ false
+      sure = r .reached .sure
+
+      reached-here : Reached (head b) rs (start b f e) (p ++ x .rest) (outcome (head b) (r .done) (start b f e))
+      reached-here = subst (λ (l : List Record). Reached (head b) rs (start b f e) l (outcome (head b) (r .done) (start b f e))) (x .whole) (r .reached)
+
+      stops : (n : Reason) → Means (head b) (p ++ x .rest) m (meaning.stopped n (j .stamp) (outcome (head b) [] m)) →
+          Answered (endedWith (reasonAnswer n) (j .stamp) (d .count) (d .machine .flash) (d .machine .eeprom) (d .replies))
+      unfolding shown
+      stops n h = (
+        meaning.stopped n (j .stamp) (outcome (head b) (r .done) (start b f e)),
+        reached-stop (head b) rs (start b f e) (p ++ x .rest) _ reached-here n (j .stamp) h,
+        shows b f e (answerNumber (reasonAnswer n)) (j .stamp) (r .done) d (r .played) done-few
+            ∙ ap (λ (l : List Record). shownAs b (answerNumber (reasonAnswer n)) (j .stamp) l (outcome (head b) (r .done) (start b f e))) (sym before-is),
+      )
+
+      stops-by : (v : Verdict) → Judged b (x .held) (m .controls) v → goesOn v ≡ false → Answered (endedWith (stopOf v) (j .stamp) (d .count) (d .machine .flash) (d .machine .eeprom) (d .replies))
+      unfolding Judged
+      stops-by verdict.Crowded k g =
+          stops crowded (means-crowded (head b) p (x .rest) (j .stamp) (x .same) higher m sure (too-many b (x .held) p (x .rest) (j .stamp) (x .holds) (x .same) higher k))
+      stops-by verdict.Differ k g =
+          stops differ
+          (means-differ (head b) p (x .rest) (j .stamp) (x .same) higher m sure (not-crowded b (x .held) p (x .rest) (j .stamp) (x .holds) (x .same) higher (k .0))
+          (λ a. k .1 (alike-agree b (x .held) p (x .rest) (j .stamp) (x .holds) (x .same) higher m good (k .0) a)))
+      stops-by verdict.Lost k g =
+          let a = agree-alike b (x .held) p (x .rest) (j .stamp) (x .holds) (x .same) higher m good (k .0) (k .1) in
+          stops lost
+          (means-lost (head b) p (x .rest) (j .stamp) (x .same) higher m sure (not-crowded b (x .held) p (x .rest) (j .stamp) (x .holds) (x .same) higher (k .0)) a p
+          (as-written b (x .held) p (x .rest) (j .stamp) (x .holds) (x .same) higher m good (k .0))
+          (sym (lost-as b (x .held) p (x .rest) (j .stamp) (x .holds) (x .same) higher m good (k .0) a) ∙ k .2))
+      stops-by verdict.Passes k g = absurd (true-not-false g)
+
+      -- the stamp stops the replay
+      pub reaching-stops : goesOn (j .verdict) ≡ false → Answered (endedWith (stopOf (j .verdict)) (j .stamp) (d .count) (d .machine .flash) (d .machine .eeprom) (d .replies))
+      reaching-stops g = stops-by (j .verdict) judged g
+
+      -- ---- the stamp passes
+      short : Few (x .held) → length p ≤ 18
+      short k =
+          let u = holds-few _ _ _ _ (x .holds .flash) (k .flash) in
+          let v = holds-few _ _ _ _ (x .holds .eeprom) (k .eeprom) in
+          let w = holds-few _ _ _ _ (x .holds .lines) (k .lines) in
+          omega (arith, channel-count b p, u, v, w)
+
+      written-is : Few (x .held) → take (min (j .count) 18) (j .records) ≡ p
+      written-is k =
+          let l = short k in
+          let c = x .written .counts in
+          let n : min (j .count) 18 ≡ j .count = omega (arith, l, c) in
+          ap (λ (i : ℕ). take i (j .records)) n ∙ holds-all 18 (j .count) (j .records) p (x .written) (omega (arith, l, c))
+
+      behind : (P : Record → Type 0) (l k : List Record) → All P (l ++ k) → All P k
+      unfolding All
+      behind P [] k h = h
+      behind P (s ∷ l) k h = behind P l k (h .1)
+
+      apart-next : All (λ (s : Record). All (λ (u : Record). s .stamp < u .stamp) (x .rest)) (r .done ++ p)
+      apart-next =
+          all-append _ (r .done) p
+          (all-map _ _ (λ s k. behind _ p (x .rest) (subst (All (λ (u : Record). s .stamp < u .stamp)) (x .whole) k)) (r .done) (r .apart))
+          (all-map _ _ (λ s k. subst (λ (t : ℕ). All (λ (u : Record). t < u .stamp) (x .rest)) (sym k) higher) p (x .same))
+
+      passes-by : (v : Verdict) → Judged b (x .held) (m .controls) v → goesOn v ≡ true → (d′ : Desk) → d′ ≡ runDesk b (take (min (j .count) 18) (j .records)) d → Reaching (j .next) d′
+      unfolding Judged
+      passes-by verdict.Crowded k g d′ q = absurd (true-not-false (sym g))
+      passes-by verdict.Differ k g d′ q = absurd (true-not-false (sym g))
+      passes-by verdict.Lost k g d′ q = absurd (true-not-false (sym g))
+      passes-by verdict.Passes k g d′ q =
+          let a = agree-alike b (x .held) p (x .rest) (j .stamp) (x .holds) (x .same) higher m good (k .0) (k .1) in
+          let kept : lostOf (after (head b) p m .controls) ≡ false = sym (lost-as b (x .held) p (x .rest) (j .stamp) (x .holds) (x .same) higher m good (k .0) a) ∙ k .2 in
+          record {
+            done = r .done ++ p;
+            rest = x .rest;
+            whole = r .whole ∙ ap (λ (l : List Record). r .done ++ l) (x .whole) ∙ sym (append-assoc (r .done) p (x .rest));
+            ok = x .ok;
+            left = x .left;
+            played = q ∙ ap₂ (λ (l : List Record) (y : Desk). runDesk b l y) (written-is (k .0)) (r .played) ∙ sym (run-append b (r .done) p (started b f e));
+            apart = apart-next;
+            reached =
+              subst (Reached (head b) rs (start b f e) (x .rest)) (sym (outcome-append (head b) (r .done) p (start b f e)))
+              (reached-stamp (head b) rs (start b f e) p (x .rest) (j .stamp) _ reached-here (x .same) higher
+              (not-crowded b (x .held) p (x .rest) (j .stamp) (x .holds) (x .same) higher (k .0)) a p (as-written b (x .held) p (x .rest) (j .stamp) (x .holds) (x .same) higher m good (k .0)) kept);
+          }
+
+      pub reaching-passes : goesOn (j .verdict) ≡ true → (d′ : Desk) → d′ ≡ runDesk b (take (min (j .count) 18) (j .records)) d → Reaching (j .next) d′
+      reaching-passes g d′ q = passes-by (j .verdict) judged g d′ q
