@@ -89,8 +89,8 @@ module _ (text : List ℕ) (x : Buffers) where
         unfit = λ k. clash fits k;
         long = λ k l. clash l short;
         bad = λ k l c m q.
-          let e = sym is ∙ checks .refused c m q in
-          refusal-is a line n x res h w ∙ ap (λ (y : Checked). refusedAs (answerOf a y) (lineOf y) x) e;
+            let e = sym is ∙ checks .refused c m q in
+            refusal-is a line n x res h w ∙ ap (λ (y : Checked). refusedAs (answerOf a y) (lineOf y) x) e;
         played = λ k l b rs q. absurd (subst IsReadable (sym (checks .readable b rs q) ∙ is) tt);
         read = λ k l. checks .only;
       }
@@ -101,10 +101,10 @@ module _ (text : List ℕ) (x : Buffers) where
         long = λ k l. clash l short;
         bad = λ k l a n q. absurd (subst IsReadable (sym is ∙ checks .refused a n q) tt);
         played = λ k l d rs q.
-          let h = sym (checks .readable d rs q) ∙ is in
-          let same-board : d ≡ b = ap (boardOf d) h in
-          let same-place : length (spelledBoard d) ≡ c .at = ap placeOf h in
-          let go = subst (λ (y : Board). Runs text (c .at) y (x .flash) (x .eeprom) (replicate repliesLength 0) e) (sym same-board) runs in
-          go .runs rs q (sym same-place) refl;
+            let h = sym (checks .readable d rs q) ∙ is in
+            let same-board : d ≡ b = ap (boardOf d) h in
+            let same-place : length (spelledBoard d) ≡ c .at = ap placeOf h in
+            let go = subst (λ (y : Board). Runs text (c .at) y (x .flash) (x .eeprom) (replicate repliesLength 0) e) (sym same-board) runs in
+            go .runs rs q (sym same-place) refl;
         read = λ k l. checks .only;
       }

@@ -50,9 +50,9 @@ module _ (text : List ℕ) (first : ℕ) (b : Board) (f e : Image) (replies : Li
       unfolding ComesTo
       runs-stops g a s = record {
         runs = λ rs q h z.
-          let r = here rs q h z in
-          let x = judges .found (r .rest) (r .ok) (r .left) inside in
-          rw s (reaching-stops text b rs f e q (few-records q short) place _ r c refl j x g);
+            let r = here rs q h z in
+            let x = judges .found (r .rest) (r .ok) (r .left) inside in
+            rw s (reaching-stops text b rs f e q (few-records q short) place _ r c refl j x g);
       }
 
       pub comes-next : goesOn (j .verdict) ≡ true → (d : Desk) (n : ℕ) → n ≡ min (j .count) 18 → d ≡ runDesk b (take n (j .records)) (deskOf c f′ e′ old number count) → ComesTo (j .next) d

@@ -89,13 +89,13 @@ module _ (b : Board) (f e : Image) where
       let m : d .machine ≡ after (head b) o start = ap (λ (x : Desk). x .machine) p ∙ run-machine b o started in
       let y : said (head b) o start ≡ shownAt (head b) o (outcome (head b) o start) = sym (laid-said (head b) o start) in
       let c : d .count ≡ countTwos o (shownAt (head b) o (outcome (head b) o start)) =
-          ap (λ (x : Desk). x .count) p ∙ run-count b o started ∙ omega arith ∙ ap (countTwos o) y in
+      ap (λ (x : Desk). x .count) p ∙ run-count b o started ∙ omega arith ∙ ap (countTwos o) y in
       let k : repliesLength ≡ 4 * length o + (repliesLength - 4 * length o) = omega arith in
       let g : d .replies ≡ replyLines o (said (head b) o start) ++ replicate (repliesLength - 4 * length o) 0 =
-          ap (λ (x : Desk). x .replies) p
-          ∙ run-replies b o started [] (repliesLength - 4 * length o) (ap (λ (x : ℕ). replicate x 0) k) refl (length-replicate {A = ℕ} repliesLength 0) (omega arith) in
+      ap (λ (x : Desk). x .replies) p
+      ∙ run-replies b o started [] (repliesLength - 4 * length o) (ap (λ (x : ℕ). replicate x 0) k) refl (length-replicate {A = ℕ} repliesLength 0) (omega arith) in
       let h = g ∙ ap (λ (x : ℕ). replyLines o (said (head b) o start) ++ replicate (repliesLength - x) 0) (sym (lines-long o start))
-          ∙ ap (λ (ys : List Reply). replyLines o ys ++ replicate (repliesLength - length (replyLines o ys)) 0) y in
+      ∙ ap (λ (ys : List Reply). replyLines o ys ++ replicate (repliesLength - length (replyLines o ys)) 0) y in
       λ i. endedAs n (record { flash = m i .flash; eeprom = m i .eeprom; replies = h i; result = resultBytes n t (c i) })
 
 -- ---- the loop has come to the place with the desk d
@@ -142,8 +142,7 @@ module _ (text : List ℕ) (b : Board) (rs : List Record) (f e : Image) (readabl
     unfolding shown
     reaching-ends h =
         let n : r .rest ≡ [] = at-end text place (r .rest) (r .left) h (r .ok) in
-        let w : rs ≡ r .done = r .whole ∙ ap (λ (l : List Record). r .done ++ l) n ∙ append-nil (r .done) in
-        (
+        let w : rs ≡ r .done = r .whole ∙ ap (λ (l : List Record). r .done ++ l) n ∙ append-nil (r .done) in (
           meaning.settled (outcome (head b) (r .done) (start b f e)),
           reached-end (head b) rs (start b f e) _ (subst (λ (l : List Record). Reached (head b) rs (start b f e) l (outcome (head b) (r .done) (start b f e))) n (r .reached)),
           shows b f e 0 0 (r .done) d (r .played) done-few ∙ ap (λ (l : List Record). shownAs b 0 0 l (outcome (head b) (r .done) (start b f e))) (sym w),
@@ -273,9 +272,9 @@ module _ (text : List ℕ) (b : Board) (rs : List Record) (f e : Image) (readabl
             played = q ∙ ap₂ (λ (l : List Record) (y : Desk). runDesk b l y) (written-is (k .0)) (r .played) ∙ sym (run-append b (r .done) p (started b f e));
             apart = apart-next;
             reached =
-              subst (Reached (head b) rs (start b f e) (x .rest)) (sym (outcome-append (head b) (r .done) p (start b f e)))
-              (reached-stamp (head b) rs (start b f e) p (x .rest) (j .stamp) _ reached-here (x .same) higher
-              (not-crowded b (x .held) p (x .rest) (j .stamp) (x .holds) (x .same) higher (k .0)) a p (as-written b (x .held) p (x .rest) (j .stamp) (x .holds) (x .same) higher m good (k .0)) kept);
+                subst (Reached (head b) rs (start b f e) (x .rest)) (sym (outcome-append (head b) (r .done) p (start b f e)))
+                (reached-stamp (head b) rs (start b f e) p (x .rest) (j .stamp) _ reached-here (x .same) higher
+                (not-crowded b (x .held) p (x .rest) (j .stamp) (x .holds) (x .same) higher (k .0)) a p (as-written b (x .held) p (x .rest) (j .stamp) (x .holds) (x .same) higher m good (k .0)) kept);
           }
 
       pub reaching-passes : goesOn (j .verdict) ≡ true → (d′ : Desk) → d′ ≡ runDesk b (take (min (j .count) 18) (j .records)) d → Reaching (j .next) d′

@@ -54,9 +54,14 @@ loop-again c =
     let s = c .before .before .before .before .before .before .before .before .before .before .before .before .before .before .before .before .before .before .before .before .before .before .before .before .before .args in
     let l = c .before .before .before .before .before .before .before .before .before .before .before .before .before .before .before .before .before .before .before .loop in
     let p = c .before .before .before .before .before .before .before .before .before .before .before .play-one .ensures in
-    let z : s .number + l .k + 1 ≡ s .number + (l .k + 1) = omega arith in
-    (
-      omega arith, omega (arith, p .1), omega arith, omega arith, omega arith, omega arith, omega arith,
+    let z : s .number + l .k + 1 ≡ s .number + (l .k + 1) = omega arith in (
+      omega arith,
+      omega (arith, p .1),
+      omega arith,
+      omega arith,
+      omega arith,
+      omega arith,
+      omega arith,
       turn _ _ _ _ _ _ _ _ (long (c .before .before .before .before .before .before .before .before .before .before .before .before .before .before .before .before .before .before .before .before .before .before .before .before .before)) (c .before .before .before .before .before .before .before .before .before .before .before .before .before .before .before .before .before .before .loop-test .taken) (rw z at (p .0)) (l .inv .7),
     )
 

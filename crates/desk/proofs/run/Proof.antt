@@ -69,8 +69,7 @@ at-most-requires c κs = search needs
 
 play-all-requires : tie.Need-play-all-requires Inv-loop μ-loop
 play-all-requires c κs =
-    let i = c .before .before .before .before .before .before .before .before .before .before .before .loop .inv in
-    (
+    let i = c .before .before .before .before .before .before .before .before .before .before .before .loop .inv in (
       omega (arith, c .before .before .before .before .before .at-most .ensures),
       omega (arith, i .1, c .before .before .before .before .before .before .before .before .before .before .loop-test .taken, c .before .before .before .before .before .before .before .before .before .before .before .before .before .before .before .before .before .before .before .pre),
       omega (arith, i .0, c .before .before .before .before .before .before .before .before .before .before .loop-test .taken, c .before .before .before .before .before .before .before .before .before .before .before .before .before .before .before .before .before .before .before .pre),
@@ -86,11 +85,16 @@ loop-again c =
     let i = c .before .before .before .before .before .before .before .before .before .before .before .before .before .before .before .before .before .before .before .before .before .before .before .loop .inv in
     let g = via (c .before .before .before .before .before .before .before .before .before .before .before .before .before .before .before .before .before .before .before .before .passes .ensures) (not-false _ (c .before .before .before .before .before .before .before .before .before .before .before .before .before .before .before .before .before .before .before .if1 .left)) in
     let o = c .before .before .before .before .before .before .before .before .before .before .before .before .before .before .before .before .before .before .before .before .before .judge-at .ensures .onward (goes-passes _ g) in
-    let p = c .before .before .before .before .before .before .before .before .before .before .before .play-all .ensures in
-    (
-      omega (arith, i .0, o .0, p .1 .0), omega (arith, i .1, o .0, p .1 .1), omega arith, omega arith, omega arith, omega arith, omega arith,
+    let p = c .before .before .before .before .before .before .before .before .before .before .before .play-all .ensures in (
+      omega (arith, i .0, o .0, p .1 .0),
+      omega (arith, i .1, o .0, p .1 .1),
+      omega arith,
+      omega arith,
+      omega arith,
+      omega arith,
+      omega arith,
       comes-next _ _ _ _ _ _ (c .before .before .before .before .before .before .before .before .before .before .before .before .before .before .before .before .before .before .before .before .before .before .before .before .before .before .before .before .before .before .before .pre) _ _ _ _ _ _ _ (i .7) (c .before .before .before .before .before .before .before .before .before .before .before .before .before .before .before .before .before .before .before .before .before .before .loop-test .taken) _ (c .before .before .before .before .before .before .before .before .before .before .before .before .before .before .before .before .before .before .before .before .before .judge-at .ensures) g _ _
-      (c .before .before .before .before .before .before .before .before .before .before .before .before .before .before .before .before .before .at-most .ensures) (p .0),
+          (c .before .before .before .before .before .before .before .before .before .before .before .before .before .before .before .before .before .at-most .ensures) (p .0),
     )
 
 same-length-6 : tie.Need-same-length-6 Inv-loop μ-loop
