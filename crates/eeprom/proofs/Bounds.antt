@@ -31,7 +31,8 @@ use Rattle.eeprom.specs.declared.EepromCounter.{EepromCounter}
 use Rattle.eeprom.specs.declared.EepromCounter.the-variants.{Lost, At}
 use Rattle.eeprom.specs.declared.Eeprom.{Eeprom}
 use Rattle.eeprom.specs.declared.EepromStep.{EepromStep}
-use Rattle.eeprom.proofs.Rolling.{rolled-small, next-low, next-small, counted-less, counted-small, first-less, first-all, first-small}
+use Rattle.page.specs.Laws.{rolled-small}
+use Rattle.eeprom.proofs.Rolling.{next-low, next-small, counted-less, counted-small, first-less, first-all, first-small}
 
 abbrev StepGood : EepromStep → Type 0
 StepGood s = ChipGood (s .chip)

@@ -1,27 +1,13 @@
 -- The place after one in a page of 64, and which places so many data bytes are for.
 -- Assumes nothing.
 use Prim.Native.Nat.{ℕ, _+_, _-_, _*_, _/_, _%_, _<_, _≤_}
-use native.Mathlib.Nat.{mod-eq-of-lt, mod-self, mod-lt}
 use native.Mathlib.Omega.{arith}
-use mathlib.Core.Path.{_≡_, sym}
+use mathlib.Core.Path.{_≡_}
 use lib.Dec.{ltb}
 use borrow.Author.Tests.{ltb-true, ltb-false, lt-ltb, le-ltb}
 use Rattle.law.specs.Choice.{split}
-use Rattle.page.specs.Rolling.{rolledIn}
+use Rattle.page.specs.Laws.{rolled-mod}
 use Rattle.eeprom.specs.Write.{nextInPage, counted, firstSent}
-
--- ---- of every page
--- the place after one is the next modulo the page's size
-pub rolled-mod : (last at : ℕ) → at ≤ last → rolledIn last at ≡ (at + 1) % (last + 1)
-rolled-mod last at h =
-    split (ltb at last)
-    (λ t. let l = ltb-true at last t in simp (t) (sym (mod-eq-of-lt (omega arith))))
-    (λ t. let l = ltb-false at last t in let e : at ≡ last = omega arith in simp (t) (rw e (sym (mod-self (last + 1)))))
-
-pub rolled-small : (last at : ℕ) → at ≤ last → rolledIn last at ≤ last
-rolled-small last at h =
-    let l : (at + 1) % (last + 1) < last + 1 = mod-lt (at + 1) (omega arith) in
-    rw (rolled-mod last at h) (omega arith)
 
 -- ---- the page stays, the low six bits go on
 pub next-is : (p : ℕ) → nextInPage p ≡ p / 64 * 64 + (p % 64 + 1) % 64

@@ -11,7 +11,7 @@ pub enum Written {
 }
 
 // Copies the bytes held to the front of the output, if there is room for all.
-pub fn copy_out(s: Spelling, out: &mut [u8]) -> Written
+pub(crate) fn copy_out(s: Spelling, out: &mut [u8]) -> Written
     requires { ⌜ s .len ≤ room ⌝ }
     ensures { λ r. ⌜ Wrote (held s) (now (out .entry)) (now (out .exit)) r ⌝ }
 {

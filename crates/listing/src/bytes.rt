@@ -45,7 +45,7 @@ fn match_of(number: u8) -> Match
     Match::Nothing
 }
 
-pub fn was_played(reply: Reply) -> bool
+pub(crate) fn was_played(reply: Reply) -> bool
     ensures { λ r. ⌜ r ≡ wasPlayed reply ⌝ }
 {
     match reply {
@@ -61,7 +61,7 @@ pub fn was_played(reply: Reply) -> bool
 }
 
 // The reply of record k.
-pub fn reply_at(replies: &[u8], k: usize) -> Reply
+pub(crate) fn reply_at(replies: &[u8], k: usize) -> Reply
     requires { ⌜ 4 * k + 4 ≤ length (now replies) ⌝ }
     ensures { λ r. ⌜ r ≡ replyAt (now (replies .entry)) k ⌝ }
 {
@@ -70,7 +70,7 @@ pub fn reply_at(replies: &[u8], k: usize) -> Reply
 }
 
 // The match of record k.
-pub fn match_at(replies: &[u8], k: usize) -> Match
+pub(crate) fn match_at(replies: &[u8], k: usize) -> Match
     requires { ⌜ 4 * k + 4 ≤ length (now replies) ⌝ }
     ensures { λ r. ⌜ r ≡ matchAt (now (replies .entry)) k ⌝ }
 {
@@ -84,7 +84,7 @@ fn wide(byte: u8) -> u32
 }
 
 // The number in four bytes, low byte first.
-pub fn number_at(bytes: &[u8], at: usize) -> u32
+pub(crate) fn number_at(bytes: &[u8], at: usize) -> u32
     requires { ⌜ at + 4 ≤ length (now bytes) ⌝ }
     ensures { λ r. ⌜ r ≡ numberAt (now (bytes .entry)) at ⌝ }
 {
@@ -96,7 +96,7 @@ pub fn number_at(bytes: &[u8], at: usize) -> u32
 }
 
 // Answers 1 to 5 are the refusals.
-pub fn is_refusal(answer: u32) -> bool
+pub(crate) fn is_refusal(answer: u32) -> bool
     ensures { λ r. ⌜ r ≡ isRefusal answer ⌝ }
 {
     if answer == 0 {

@@ -7,7 +7,7 @@ ghost use Rattle.field.specs.Spelling.{held, room};
 use field::Spelling;
 
 // Copies the bytes held into the output from a place on; the place after them.
-pub fn copy_line(s: Spelling, out: &mut [u8], at: usize) -> usize
+pub(crate) fn copy_line(s: Spelling, out: &mut [u8], at: usize) -> usize
     requires { ⌜ (s .len ≤ room) × (at + room ≤ length (now out)) ⌝ }
     ensures { λ r. ⌜ (r ≡ at + s .len) × (now (out .exit) ≡ sets (now (out .entry)) at (held s)) ⌝ }
 {

@@ -81,7 +81,7 @@ fn load(path: &[u8], buf: &mut [u8]) -> Loaded
 }
 
 // The trace. Where there is none there is no text.
-pub fn trace(text: &mut [u8]) -> Taken
+pub(crate) fn trace(text: &mut [u8]) -> Taken
     ensures { λ r. ⌜ Within (now (text .exit)) r ⌝ }
 {
     let loaded = load(b"trace.tsv", text);
@@ -103,7 +103,7 @@ fn clear(mask: &mut [u8])
 }
 
 // A dump, which is taken as sure, and its length. Where there is none the image and its mask stay as they were lent, and the image has its 32,768 bytes.
-pub fn dump(path: &[u8], image: &mut [u8], mask: &mut [u8]) -> Taken
+pub(crate) fn dump(path: &[u8], image: &mut [u8], mask: &mut [u8]) -> Taken
     requires { ⌜ 32768 ≤ length (now image) ⌝ }
     ensures { λ r. ⌜ Dumps (now (image .entry)) (now (image .exit)) (now (mask .entry)) (now (mask .exit)) r ⌝ }
 {

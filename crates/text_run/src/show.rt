@@ -12,7 +12,7 @@ fn pair(before: &[u8], number: u32, second: usize) {
 }
 
 // The case's name, the refusal's number and its line.
-pub fn verdict(name: &[u8], text: &[u8]) {
+pub(crate) fn verdict(name: &[u8], text: &[u8]) {
     io::write_all(1, name);
     io::write_all(1, b"\t");
     match text::check_text(text) {
@@ -47,7 +47,7 @@ fn print_written(w: Written, bytes: &[u8]) {
 }
 
 // A record's line, read and written back.
-pub fn again(text: &[u8]) {
+pub(crate) fn again(text: &[u8]) {
     let ReadRecord::Value(rec, _) = text::record_at(text, 0) else {
         io::write_all(1, b"no record\n");
         return;
@@ -63,7 +63,7 @@ pub fn again(text: &[u8]) {
 }
 
 // A board, written to an output of a given room.
-pub fn board(status: u8, sector: u8, address: u8, room: usize) {
+pub(crate) fn board(status: u8, sector: u8, address: u8, room: usize) {
     let b = Board {
         status,
         sector,

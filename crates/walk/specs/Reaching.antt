@@ -30,7 +30,6 @@ use Rattle.orders.specs.declared.Verdict.{Verdict}
 use Rattle.orders.specs.declared.Verdict.the-variants as verdict
 use Rattle.orders.specs.Verdicts.{Few, TooMany, AllAgree, lastOf, Judged}
 use Rattle.machine.specs.Machine.{Machine, machineAtStart, head, channelOf}
-use Rattle.text.specs.Stamps as stamps-text
 use Rattle.text.specs.Texts.{spelledAll, AllOk, Readable, textLimit}
 use Rattle.text.proofs.Theorems.{first-place, few-records, at-end}
 use Rattle.verdict.specs.Verdict.{Good, good-start, good-after, HoldsMost, Holds, holds-all, holds-few, too-many, not-crowded, agree-alike, alike-agree, as-written, lost-as}
@@ -41,18 +40,8 @@ use Rattle.stamps.specs.Judging.{Found, JudgesAt}
 use Rattle.call.specs.Play.{Desk, deskOf, runDesk}
 use Rattle.call.specs.Replay.{Ended, endedAs, replyLines, countTwos, padded, shownAs, shown, reasonAnswer, stopOf, goesOn}
 use Rattle.call.specs.Run.{endedWith, Runs}
+use Rattle.call.proofs.Back.{never-back}
 use Rattle.call.proofs.Playing.{run-machine, run-append, run-count, run-replies}
-
--- ---- stamps in file order never go back
-above : (t : ℕ) (rs : List Record) → stamps-text.NeverBack t rs → All (λ (r : Record). t ≤ r .stamp) rs
-unfolding stamps-text.NeverBack All
-above t [] h = tt
-above t (r ∷ rs) h = let l = h .0 in (l, all-map _ _ (λ x k. omega arith) rs (above (r .stamp) rs (h .1)))
-
-never-back : (b : Board) (t : ℕ) (rs : List Record) → stamps-text.NeverBack t rs → NeverBack (head b) rs
-unfolding stamps-text.NeverBack NeverBack
-never-back b t [] h = tt
-never-back b t (r ∷ rs) h = (above (r .stamp) rs (h .1), never-back b (r .stamp) rs (h .1))
 
 -- ---- the records of a stamp are those of its channels
 one-more : (c : Channel) (r : Record) (f e l : List Record) (n : ℕ) → n ≡ length f + (length e + length l) →

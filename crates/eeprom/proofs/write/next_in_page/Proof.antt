@@ -1,7 +1,7 @@
 use Prim.Native.Nat.{_%_, _≤_}
 use native.Mathlib.Omega.{arith}
 use Rattle.page.specs.Rolling.{rolledIn}
-use Rattle.eeprom.proofs.Rolling.{rolled-small}
+use Rattle.page.specs.Laws.{rolled-small}
 use borrow.Author.Needs.{needs}
 use Rattle.eeprom.proofs.write.next_in_page.Statement.{statement}
 use Rattle.eeprom.proofs.write.next_in_page.Tie as tie

@@ -1,0 +1,227 @@
+-- Why the sentences of the bench sheet hold: the controls by computing, a byte of an image by the law of the page that a cycle writes.
+use mathlib.Core.Path.{_≡_, refl, sym, ap, ap₂, _∙_}
+use mathlib.Core.Bool.{true}
+use mathlib.Core.List.{List, [], _∷_, _++_}
+use Prim.Native.Nat.{ℕ, _+_, _*_, _/_, _%_, _<_}
+use native.Mathlib.Nat.{mod-lt, mod-eq-of-lt, div-eq-of-lt, zero-add}
+use native.Mathlib.Omega.{arith}
+use lib.ListN.{length, getD, set, length-append}
+use lib.Seq.{getD-set-same}
+use Rattle.law.specs.Choice.{pick}
+use Rattle.tied.specs.Joint.{done3, flashFirst, linesFirst}
+use Rattle.meaning.specs.Lists.{filter, keep, All}
+use Rattle.meaning.specs.Meaning.{F, Outcome, after, replies, Alike}
+use Rattle.meaning.specs.Listing.{said}
+use Rattle.meaning.specs.Groups.{listed, OrdersAgree, goesOn}
+use Rattle.meaning.specs.Joints.{agree-alike, alike-agree}
+use Rattle.meaning.specs.Steps.{after-append, means-end, means-differ}
+use Rattle.record.specs.declared.Record.{Record}
+use Rattle.record.specs.declared.FlashEvent.the-variants as flash
+use Rattle.record.specs.declared.LineEvent.the-variants.{SupplyOff}
+use Rattle.record.specs.declared.Reply.{Reply}
+use Rattle.record.specs.declared.Reply.the-variants.{Silent, Starts}
+use Rattle.record.specs.LineRules.{linesAtStart}
+use Rattle.cell.specs.declared.Cell.{Cell}
+use Rattle.cell.specs.Rules.{programmedCell, cutCell, storedCell}
+use Rattle.page.specs.Rolling.{rolledIn, place, roll}
+use Rattle.page.specs.Laws.{rolled-256, place-first, place-next, roll-last, length-roll}
+use Rattle.image.specs.Image.{Image, fits, cellAt}
+use Rattle.image.specs.Cycles.{programPage, cutProgramPage, storePage, isSent}
+use Rattle.image.proofs.AtPlace.{programPage-at, cutProgramPage-at, storePage-at}
+use Rattle.image.proofs.Keeping.{fits-programPage, fits-cutProgramPage}
+use Rattle.image.proofs.Reading.{page-behind}
+use Rattle.board.specs.Play.{movedOf}
+use Rattle.flash.specs.Cycle.{blank}
+use Rattle.flash.specs.declared.Op.the-variants as op
+use Rattle.flash.specs.declared.LockFact.the-variants.{Absent}
+use Rattle.flash.specs.declared.FlashFrame.the-variants.{Command}
+use Rattle.flash.specs.declared.FlashCycle.the-variants.{None}
+use Rattle.flash.specs.declared.FlashStatus.the-variants.{Known}
+use Rattle.eeprom.specs.Chip as eeprom-chip
+use Rattle.machine.specs.Effects.{flashAfter, eepromAfter}
+use Rattle.machine.specs.Replies.{delivered}
+use Rattle.machine.specs.Machine.{Machine, machineOf, machineAtStart, head, playOn, saysOn}
+use Rattle.call.specs.Replay.{shown, shownAs}
+use Rattle.demands.specs.OneStamp.{one-channel, few, stamp-passes}
+use Rattle.demands.specs.Bench.{plain, onF, onL, xs, opened, wren, three, Case1, Case2, Case3, Case4, Case5, Case6, Case7, Case8, Case9, Case10, Case11, Case12}
+
+-- one byte d sent to place 0
+abbrev sent : ℕ → List ℕ
+sent d = set blank 0 d
+
+-- place 0 after a whole PROGRAM of it, and after a cut one
+whole-at : (i : Image) → fits i ≡ true → (d : ℕ) → cellAt (programPage 0 (sent d) i) 0 ≡ programmedCell (cellAt i 0) d
+whole-at i fit d = programPage-at i fit 0 (sent d) (omega arith) 0 (omega arith)
+
+cut-at : (i : Image) → fits i ≡ true → (d : ℕ) → cellAt (cutProgramPage 0 (sent d) i) 0 ≡ cutCell (cellAt i 0) d
+cut-at i fit d = cutProgramPage-at i fit 0 (sent d) (omega arith) 0 (omega arith)
+
+-- a PROGRAM frame with its address in, at a place of page 0
+abbrev sending : ℕ → List ℕ → Image → Image → ℕ → Machine
+sending place page f e count =
+    machineOf
+    (record {
+      flash = record { frame = Command op.Program (record { count = count; place = place }) Absent; cycle = None; status = Known 2; page = page };
+      eeprom = eeprom-chip.startOf;
+      lines = linesAtStart;
+    })
+    f e
+
+module _ (f e : Image) where
+  send-one : (p : ℕ) (page : List ℕ) (d : ℕ) → p < 256 → playOn plain (sending p page f e 5) (onF 0 (flash.Byte d 0xff)) ≡ sending ((p + 1) % 256) (set page p d) f e 5
+  unfolding playOn movedOf flashAfter eepromAfter
+  send-one p page d h =
+      let small : p % 256 ≡ p = mod-eq-of-lt h in
+      let next : p / 256 * 256 + rolledIn 255 (p % 256) ≡ (p + 1) % 256 =
+      ap₂ (λ (x y : ℕ). x * 256 + rolledIn 255 y) (div-eq-of-lt h) small ∙ zero-add (rolledIn 255 p) ∙ rolled-256 p h in
+      λ i. sending (next i) (set page (small i) d) f e 5
+
+  -- the data roll in the page
+  send-all : (ds : List ℕ) (p : ℕ) (page : List ℕ) → p < 256 → after (head plain) (xs 0 ds) (sending p page f e 5) ≡ sending (place 256 p (length ds)) (roll 256 p ds page) f e 5
+  unfolding after
+  send-all [] p page h = ap (λ (k : ℕ). sending k page f e 5) (sym (place-first 256 p h))
+  send-all (d ∷ ds) p page h =
+      ap (after (head plain) (xs 0 ds)) (send-one p page d h)
+      ∙ send-all ds ((p + 1) % 256) (set page p d) (mod-lt (p + 1) (omega arith))
+      ∙ ap (λ (k : ℕ). sending k (roll 256 p (d ∷ ds) page) f e 5) (place-next 256 p (length ds))
+
+  -- 256 bytes from place 1 on end at place 1 again; then `des` and `end`
+  send-done : (ds page : List ℕ) → length ds ≡ 256 →
+      after (head plain) ((xs 0 ds ++ (onF 0 flash.Deselect ∷ [])) ++ (onF 0 flash.End ∷ [])) (sending 1 page f e 5) .flash ≡ programPage 0 (roll 256 1 ds page) f
+  unfolding after playOn movedOf flashAfter eepromAfter
+  send-done ds page h =
+      let sent-all : after (head plain) (xs 0 ds) (sending 1 page f e 5) ≡ sending 1 (roll 256 1 ds page) f e 5 =
+      send-all ds 1 page (omega arith) ∙ ap (λ (k : ℕ). sending (place 256 1 k) (roll 256 1 ds page) f e 5) h in
+      ap (λ (m : Machine). m .flash)
+      (after-append (head plain) (xs 0 ds ++ (onF 0 flash.Deselect ∷ [])) (onF 0 flash.End ∷ []) (sending 1 page f e 5)
+      ∙ ap (after (head plain) (onF 0 flash.End ∷ []))
+      (after-append (head plain) (xs 0 ds) (onF 0 flash.Deselect ∷ []) (sending 1 page f e 5) ∙ ap (after (head plain) (onF 0 flash.Deselect ∷ [])) sent-all))
+
+module _ (f e : Image) (fit : fits f ≡ true) where
+  pub case1 : Case1 f e
+  unfolding after playOn movedOf flashAfter eepromAfter
+  case1 h = whole-at f fit 0xa5 ∙ ap (λ (c : Cell). programmedCell c 0xa5) h
+
+  pub case2 : Case2 f e
+  unfolding after playOn movedOf flashAfter eepromAfter
+  case2 h =
+      whole-at (programPage 0 (sent 0xa5) f) (fits-programPage f 0 (sent 0xa5) ∙ fit) 0x3c
+      ∙ ap (λ (c : Cell). programmedCell c 0x3c) (whole-at f fit 0xa5 ∙ ap (λ (c : Cell). programmedCell c 0xa5) h)
+
+  pub case3 : Case3 f e
+  unfolding after playOn movedOf flashAfter eepromAfter
+  case3 h = cut-at f fit 0x0f ∙ ap (λ (c : Cell). cutCell c 0x0f) h
+
+  pub case4 : Case4 f e
+  unfolding after playOn movedOf flashAfter eepromAfter
+  case4 h =
+      whole-at (cutProgramPage 0 (sent 0x0f) f) (fits-cutProgramPage f 0 (sent 0x0f) ∙ fit) 0x3c
+      ∙ ap (λ (c : Cell). programmedCell c 0x3c) (cut-at f fit 0x0f ∙ ap (λ (c : Cell). cutCell c 0x0f) h)
+
+  pub case5 : Case5 f e
+  unfolding said playOn saysOn movedOf delivered flashAfter eepromAfter
+  case5 = refl
+
+  pub case6 : Case6 f e
+  unfolding after playOn movedOf flashAfter eepromAfter programPage
+  case6 =
+      let page : List ℕ = set (set blank 255 0x11) 0 0x22 in (
+        programPage-at f fit 0 page (omega arith) 0x00 (omega arith),
+        programPage-at f fit 0 page (omega arith) 0xff (omega arith),
+        page-behind 256 0 (λ q c. programmedCell c (getD page q 0)) f 0x100 (omega arith) (omega arith),
+      )
+
+  pub case7 : Case7 f e
+  unfolding after playOn movedOf flashAfter eepromAfter
+  case7 [] last h = absurd (omega arith)
+  case7 (c ∷ ds) last h =
+      let len : length (ds ++ (last ∷ [])) ≡ 256 = length-append ds (last ∷ []) ∙ omega arith in
+      let most : length ds ≡ 255 = omega arith in
+      let page : List ℕ = roll 256 1 ds (set blank 0 c) in
+      let here : roll 256 1 (ds ++ (last ∷ [])) (set blank 0 c) ≡ set page 0 last =
+      roll-last 256 1 ds last (set blank 0 c) (omega arith) ∙ ap (λ (k : ℕ). set page (place 256 1 k) last) most in
+      ap (λ (i : Image). cellAt i 0) (send-done f e (ds ++ (last ∷ [])) (set blank 0 c) len)
+      ∙ programPage-at f fit 0 (roll 256 1 (ds ++ (last ∷ [])) (set blank 0 c)) (omega arith) 0 (omega arith)
+      ∙ ap (λ (x : List ℕ). programmedCell (cellAt f 0) (getD x 0 0)) here
+      ∙ ap (programmedCell (cellAt f 0)) (getD-set-same page 0 last 0 (omega (arith, length-roll 256 1 ds (set blank 0 c))))
+
+  pub case8 : Case8 f e
+  unfolding said playOn saysOn movedOf delivered flashAfter eepromAfter
+  case8 = (refl, refl)
+
+module _ (f e : Image) (fit : fits e ≡ true) where
+  pub case9 : Case9 f e
+  unfolding after playOn movedOf flashAfter eepromAfter storePage
+  case9 =
+      let page : List ℕ = set (set eeprom-chip.blank 63 0x11) 0 0x22 in (
+        storePage-at e fit 0 63 2 page (omega arith) (omega arith) 0x00 (omega arith) refl,
+        storePage-at e fit 0 63 2 page (omega arith) (omega arith) 0x3f (omega arith) refl,
+        page-behind 64 0 (λ q c. pick (isSent 63 2 q) (storedCell (getD page q 0)) c) e 0x40 (omega arith) (omega arith),
+      )
+
+  pub case10 : Case10 f e
+  unfolding said playOn saysOn movedOf delivered flashAfter eepromAfter
+  case10 = refl
+
+-- ---- cases 11 and 12: a stamp with records of one channel passes; then `des` and `off` in either order
+abbrev desOff : ℕ → List Record
+desOff stamp = onF stamp flash.Deselect ∷ onL stamp SupplyOff ∷ []
+
+module _ (f e : Image) where
+  -- WREN's frame is open
+  abbrev enabling : Machine
+  enabling = after (head plain) (opened 10 (0x06 ∷ [])) (machineAtStart plain f e)
+
+  des-off-agree : OrdersAgree (head plain) (onF 20 flash.Deselect ∷ []) [] (onL 20 SupplyOff ∷ []) enabling
+  unfolding OrdersAgree listed after replies keep playOn saysOn movedOf delivered flashAfter eepromAfter
+  des-off-agree (flashFirst (linesFirst done3)) (flashFirst (linesFirst done3)) = refl
+  des-off-agree (flashFirst (linesFirst done3)) (linesFirst (flashFirst done3)) = refl
+  des-off-agree (linesFirst (flashFirst done3)) (flashFirst (linesFirst done3)) = refl
+  des-off-agree (linesFirst (flashFirst done3)) (linesFirst (flashFirst done3)) = refl
+
+  pub case11 : Case11 f e
+  unfolding filter keep All after playOn movedOf flashAfter eepromAfter shown shownAs goesOn
+  case11 =
+      let frame : List Record = opened 10 (0x06 ∷ []) in
+      let last = stamp-passes (head plain) (desOff 20) [] 20 (refl, (refl, tt)) tt (omega arith) (omega arith) (omega arith) enabling refl
+      (agree-alike (head plain) (desOff 20) 20 (refl, (refl, tt)) enabling des-off-agree) refl _ (means-end (head plain) _ refl) in (
+        _,
+        stamp-passes (head plain) frame (desOff 20) 10 (refl, (refl, tt)) (omega arith, (omega arith, tt)) (omega arith) (omega arith) (omega arith) (machineAtStart plain f e) refl
+            (one-channel (head plain) F frame (refl, (refl, tt)) (machineAtStart plain f e)) refl _ last,
+        refl,
+      )
+
+  -- a PROGRAM's frame is open, with write enable on
+  abbrev written : List Record
+  written = opened 20 (0x02 ∷ (three 0x00000 ++ (0xa5 ∷ [])))
+
+  abbrev enabled : Machine
+  enabled = after (head plain) (wren 10) (machineAtStart plain f e)
+
+  abbrev programming : Machine
+  programming = after (head plain) written enabled
+
+  -- `des` first starts a cycle, `off` first does not
+  des-off-differ : Alike (head plain) (desOff 30) programming → ⊥
+  unfolding All filter keep listed OrdersAgree after replies playOn saysOn movedOf delivered flashAfter eepromAfter
+  des-off-differ a =
+      let k = alike-agree (head plain) (desOff 30) 30 (refl, (refl, tt)) programming a (flashFirst (linesFirst done3)) (linesFirst (flashFirst done3)) in
+      let r : Starts ∷ [] ≡ Silent ∷ [] = ap (λ (v : Outcome Machine Reply). v .flash) k in
+      let z : _≡_ {A = ℕ} 0 1 = cc in
+      omega arith
+
+  pub case12 : Case12 f e
+  unfolding filter keep All after playOn movedOf flashAfter eepromAfter shown shownAs goesOn
+  case12 =
+      let six : All (λ (r : Record). r .stamp ≡ 20) written = (refl, (refl, (refl, (refl, (refl, (refl, tt)))))) in
+      let last = means-differ (head plain) (desOff 30) [] 30 (refl, (refl, tt)) tt programming refl
+      (few (head plain) (desOff 30) [] 30 (refl, (refl, tt)) tt (omega arith) (omega arith) (omega arith)) des-off-differ in
+      let next = stamp-passes (head plain) written (desOff 30) 20 six (omega arith, (omega arith, tt)) (omega arith) (omega arith) (omega arith) enabled refl
+      (one-channel (head plain) F written (refl, (refl, (refl, (refl, (refl, (refl, tt)))))) enabled) refl _ last in (
+        _,
+        stamp-passes (head plain) (wren 10) (written ++ desOff 30) 10 (refl, (refl, (refl, tt)))
+            (omega arith, (omega arith, (omega arith, (omega arith, (omega arith, (omega arith, (omega arith, (omega arith, tt))))))))
+            (omega arith) (omega arith) (omega arith) (machineAtStart plain f e) refl
+            (one-channel (head plain) F (wren 10) (refl, (refl, (refl, tt))) (machineAtStart plain f e)) refl _ next,
+        refl,
+      )

@@ -1,0 +1,79 @@
+-- What the call leaves for a readable text, in one form for settled and stops: some of the records, played as they are written, leave these images and these replies.
+use mathlib.Core.Path.{_≡_, refl, ap₂, _∙_}
+use mathlib.Core.Bool.{true, false}
+use mathlib.Core.List.{List}
+use Prim.Native.Nat.{ℕ}
+use lib.Dec.{ltb}
+use lib.ListN.{length}
+use Rattle.meaning.specs.Meaning.{Outcome, Means, NeverBack, after, before}
+use Rattle.meaning.specs.Meaning as meaning
+use Rattle.meaning.specs.Allowing.{back-filter}
+use Rattle.meaning.specs.Listing.{said, shownAt, agreed-lines}
+use Rattle.record.specs.declared.Board.{Board}
+use Rattle.record.specs.declared.Record.{Record}
+use Rattle.record.specs.declared.Reply.{Reply}
+use Rattle.record.specs.declared.Answer.the-variants.{Settled}
+use Rattle.record.specs.Answers.{answerNumber}
+use Rattle.machine.specs.Machine.{Machine, machineAtStart, head}
+use Rattle.text.specs.Texts.{textLimit, Readable}
+use Rattle.buffers.specs.Buffers.{Buffers, fit, resultBytes}
+use Rattle.call.specs.Replay.{Ended, endedAs, replyLines, countTwos, padded, reasonAnswer, shownAs, shown, Replays}
+use Rattle.demands.specs.Readable.{readable-back}
+
+-- the answer's number and stamp, the records that it shows, all or those before the stop's stamp, and how they end
+abbrev pub numberOf : meaning.Answer Machine Reply → ℕ
+numberOf (meaning.settled v) = answerNumber Settled
+numberOf (meaning.stopped n t v) = answerNumber (reasonAnswer n)
+
+abbrev pub stampOf : meaning.Answer Machine Reply → ℕ
+stampOf (meaning.settled v) = 0
+stampOf (meaning.stopped n t v) = t
+
+abbrev pub recordsOf : Board → meaning.Answer Machine Reply → List Record → List Record
+recordsOf b (meaning.settled v) rs = rs
+recordsOf b (meaning.stopped n t v) rs = before (head b) t rs
+
+abbrev pub outcomeOf : meaning.Answer Machine Reply → Outcome Machine Reply
+outcomeOf (meaning.settled v) = v
+outcomeOf (meaning.stopped n t v) = v
+
+pub shown-is : (b : Board) (rs : List Record) (z : meaning.Answer Machine Reply) → shown b rs z ≡ shownAs b (numberOf z) (stampOf z) (recordsOf b z rs) (outcomeOf z)
+unfolding shown
+shown-is b rs (meaning.settled v) = refl
+shown-is b rs (meaning.stopped n t v) = refl
+
+module _ (b : Board) (rs : List Record) (back : NeverBack (head b) rs) (m : Machine) where
+  -- the outcome is that of the shown records as they are written
+  pub means-lines : (z : meaning.Answer Machine Reply) → Means (head b) rs m z →
+      (outcomeOf z .state ≡ after (head b) (recordsOf b z rs) m) × (shownAt (head b) (recordsOf b z rs) (outcomeOf z) ≡ said (head b) (recordsOf b z rs) m)
+  unfolding Means
+  means-lines (meaning.settled v) h = agreed-lines (head b) rs back m v (h .1)
+  means-lines (meaning.stopped n t v) h = agreed-lines (head b) (before (head b) t rs) (back-filter (head b) _ rs back) m v (h .1)
+
+-- the number n, the stamp t, and what is left when the records ps were played on m as they are written
+unfoldable pub leftBy : Board → ℕ → ℕ → List Record → Machine → Ended
+leftBy b n t ps m =
+    endedAs n
+    (record {
+      flash = after (head b) ps m .flash;
+      eeprom = after (head b) ps m .eeprom;
+      replies = padded (replyLines ps (said (head b) ps m));
+      result = resultBytes n t (countTwos ps (said (head b) ps m));
+    })
+
+pub left-shown : (b : Board) (rs : List Record) → NeverBack (head b) rs → (m : Machine) (z : meaning.Answer Machine Reply) → Means (head b) rs m z →
+    shown b rs z ≡ leftBy b (numberOf z) (stampOf z) (recordsOf b z rs) m
+unfolding shownAs leftBy
+left-shown b rs back m z h =
+    let k = means-lines b rs back m z h in
+    let ps = recordsOf b z rs in
+    shown-is b rs z
+    ∙ ap₂ (λ (s : Machine) (ys : List Reply). endedAs (numberOf z) (record { flash = s .flash; eeprom = s .eeprom; replies = padded (replyLines ps ys); result = resultBytes (numberOf z) (stampOf z) (countTwos ps ys) })) (k .0) (k .1)
+
+-- the same of the call
+pub call-left : {text : List ℕ} {x : Buffers} {e : Ended} {b : Board} {rs : List Record} → Replays text x e → fit x ≡ true → ltb textLimit (length text) ≡ false → Readable text b rs →
+    (z : meaning.Answer Machine Reply) × Means (head b) rs (machineAtStart b (x .flash) (x .eeprom)) z
+    × (e ≡ leftBy b (numberOf z) (stampOf z) (recordsOf b z rs) (machineAtStart b (x .flash) (x .eeprom)))
+call-left {text} {x} {e} {b} {rs} p f l q =
+    let z = p .played f l b rs q in
+    (z .0, z .1, z .2 ∙ left-shown b rs (readable-back q) _ (z .0) (z .1))
