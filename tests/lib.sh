@@ -22,14 +22,18 @@ need_rt() {
   have rt || { say "missing: rt, the Rattle toolchain (see README, 'What it needs')"; return 1; }
 }
 
-# Sets RUN, what runs an x86-64 program here: nothing where it is native.
+# Where Debian's packages for cross compiling put x86-64's C library.
+CROSS=/usr/x86_64-linux-gnu
+
+# Sets RUN, what runs an x86-64 program here: nothing where it is native. The library path keeps the loader from a C
+# library of another version that the machine may have for x86-64 beside this one.
 choose_runner() {
   case "$(uname -m)" in
     x86_64) RUN=() ;;
     aarch64)
       need qemu-x86_64 qemu-user || return 1
-      need /usr/x86_64-linux-gnu/lib/ld-linux-x86-64.so.2 libc6-amd64-cross || return 1
-      RUN=(qemu-x86_64 -L /usr/x86_64-linux-gnu)
+      need "$CROSS/lib/ld-linux-x86-64.so.2" libc6-amd64-cross || return 1
+      RUN=(qemu-x86_64 -L "$CROSS" -E "LD_LIBRARY_PATH=$CROSS/lib")
       ;;
     *)
       say "this machine ($(uname -m)) is neither x86-64 nor Arm (aarch64)"
