@@ -8,12 +8,12 @@ use native.Mathlib.Omega.{arith}
 use lib.ListN.{length, getD, set, length-append}
 use lib.Seq.{getD-set-same}
 use Rattle.law.specs.Choice.{pick}
-use Rattle.tied.specs.Joint.{done3, flashFirst, linesFirst}
-use Rattle.meaning.specs.Lists.{filter, keep, All}
+use Rattle.meaning.specs.Lists.{filter, keep, gather, All}
 use Rattle.meaning.specs.Meaning.{F, Outcome, after, replies, Alike}
 use Rattle.meaning.specs.Listing.{said}
-use Rattle.meaning.specs.Groups.{listed, OrdersAgree, goesOn}
-use Rattle.meaning.specs.Joints.{agree-alike, alike-agree}
+use Rattle.meaning.specs.Channels.{same-outcome}
+use Rattle.meaning.specs.Onward.{goesOn}
+use Rattle.meaning.specs.AllOrders.{places, orders, behind, listed-alike, alike-listed}
 use Rattle.meaning.specs.Steps.{after-append, means-end, means-differ}
 use Rattle.record.specs.declared.Record.{Record}
 use Rattle.record.specs.declared.FlashEvent.the-variants as flash
@@ -172,21 +172,19 @@ module _ (f e : Image) where
   abbrev enabling : Machine
   enabling = after (head plain) (opened 10 (0x06 ∷ [])) (machineAtStart plain f e)
 
-  des-off-agree : OrdersAgree (head plain) (onF 20 flash.Deselect ∷ []) [] (onL 20 SupplyOff ∷ []) enabling
-  unfolding OrdersAgree listed after replies keep playOn saysOn movedOf delivered flashAfter eepromAfter
-  des-off-agree (flashFirst (linesFirst done3)) (flashFirst (linesFirst done3)) = refl
-  des-off-agree (flashFirst (linesFirst done3)) (linesFirst (flashFirst done3)) = refl
-  des-off-agree (linesFirst (flashFirst done3)) (flashFirst (linesFirst done3)) = refl
-  des-off-agree (linesFirst (flashFirst done3)) (linesFirst (flashFirst done3)) = refl
+  des-off-alike : Alike (head plain) (desOff 20) enabling
+  unfolding All gather orders places behind after replies keep playOn saysOn movedOf delivered flashAfter eepromAfter
+  des-off-alike =
+      listed-alike (head plain) (desOff 20) enabling (refl, (same-outcome _ _ refl (refl, (refl, (refl, tt))), tt))
 
   pub case11 : Case11 f e
   unfolding filter keep All after playOn movedOf flashAfter eepromAfter shown shownAs goesOn
   case11 =
       let frame : List Record = opened 10 (0x06 ∷ []) in
-      let last = stamp-passes (head plain) (desOff 20) [] 20 (refl, (refl, tt)) tt (omega arith) (omega arith) (omega arith) enabling refl
-      (agree-alike (head plain) (desOff 20) 20 (refl, (refl, tt)) enabling des-off-agree) refl _ (means-end (head plain) _ refl) in (
+      let last = stamp-passes (head plain) (desOff 20) [] 20 (refl, (refl, tt)) tt refl enabling refl
+      des-off-alike refl _ (means-end (head plain) _ refl) in (
         _,
-        stamp-passes (head plain) frame (desOff 20) 10 (refl, (refl, tt)) (omega arith, (omega arith, tt)) (omega arith) (omega arith) (omega arith) (machineAtStart plain f e) refl
+        stamp-passes (head plain) frame (desOff 20) 10 (refl, (refl, tt)) (omega arith, (omega arith, tt)) refl (machineAtStart plain f e) refl
             (one-channel (head plain) F frame (refl, (refl, tt)) (machineAtStart plain f e)) refl _ last,
         refl,
       )
@@ -203,10 +201,10 @@ module _ (f e : Image) where
 
   -- `des` first starts a cycle, `off` first does not
   des-off-differ : Alike (head plain) (desOff 30) programming → ⊥
-  unfolding All filter keep listed OrdersAgree after replies playOn saysOn movedOf delivered flashAfter eepromAfter
+  unfolding All gather orders places behind keep after replies playOn saysOn movedOf delivered flashAfter eepromAfter
   des-off-differ a =
-      let k = alike-agree (head plain) (desOff 30) 30 (refl, (refl, tt)) programming a (flashFirst (linesFirst done3)) (linesFirst (flashFirst done3)) in
-      let r : Starts ∷ [] ≡ Silent ∷ [] = ap (λ (v : Outcome Machine Reply). v .flash) k in
+      let k = alike-listed (head plain) (desOff 30) 30 (refl, (refl, tt)) programming a .1 .0 in
+      let r : Silent ∷ [] ≡ Starts ∷ [] = ap (λ (v : Outcome Machine Reply). v .replies F) k in
       let z : _≡_ {A = ℕ} 0 1 = cc in
       omega arith
 
@@ -215,13 +213,13 @@ module _ (f e : Image) where
   case12 =
       let six : All (λ (r : Record). r .stamp ≡ 20) written = (refl, (refl, (refl, (refl, (refl, (refl, tt)))))) in
       let last = means-differ (head plain) (desOff 30) [] 30 (refl, (refl, tt)) tt programming refl
-      (few (head plain) (desOff 30) [] 30 (refl, (refl, tt)) tt (omega arith) (omega arith) (omega arith)) des-off-differ in
-      let next = stamp-passes (head plain) written (desOff 30) 20 six (omega arith, (omega arith, tt)) (omega arith) (omega arith) (omega arith) enabled refl
+      (few (head plain) (desOff 30) [] 30 (refl, (refl, tt)) tt refl) des-off-differ in
+      let next = stamp-passes (head plain) written (desOff 30) 20 six (omega arith, (omega arith, tt)) refl enabled refl
       (one-channel (head plain) F written (refl, (refl, (refl, (refl, (refl, (refl, tt)))))) enabled) refl _ last in (
         _,
         stamp-passes (head plain) (wren 10) (written ++ desOff 30) 10 (refl, (refl, (refl, tt)))
             (omega arith, (omega arith, (omega arith, (omega arith, (omega arith, (omega arith, (omega arith, (omega arith, tt))))))))
-            (omega arith) (omega arith) (omega arith) (machineAtStart plain f e) refl
+            refl (machineAtStart plain f e) refl
             (one-channel (head plain) F (wren 10) (refl, (refl, (refl, tt))) (machineAtStart plain f e)) refl _ next,
         refl,
       )

@@ -36,11 +36,11 @@ use Rattle.machine.specs.declared.Stroke.{Stroke}
 use Rattle.machine.specs.declared.Stroke.the-variants.{Nothing, Whole, Cut}
 use Rattle.machine.specs.Effects.{sectorOfPage, reached, flashWhole, flashCut, flashAfter, eepromWhole, eepromCut, eepromAfter, flashStroke, eepromStroke}
 use Rattle.machine.specs.Replies.{delivered}
-use Rattle.machine.specs.Machine.{Machine, machineAtStart, imageFor, head, playOn, saysOn}
+use Rattle.machine.specs.Machine.{Machine, imageFor, head, playOn, saysOn}
 use Rattle.buffers.specs.Buffers.{Buffers, repliesLength, fit}
 use Rattle.buffers.proofs.Fit.{Fit, fit-says}
 use Rattle.text.specs.Texts.{textLimit, Readable}
-use Rattle.call.specs.Replay.{Ended, refusedAs, replyLines, padded, Replays}
+use Rattle.call.specs.Replay.{Ended, refusedAs, replyLines, padded, Replays, startWith}
 use Rattle.demands.specs.Readable.{readable-back}
 use Rattle.demands.specs.Shown.{recordsOf, leftBy, left-shown, call-left}
 use Rattle.demands.specs.Ways.{Way, unfit, long, bad, played, way}
@@ -159,7 +159,7 @@ way-clean text x e h (unfit f k) = rw k (h .flash-clean, h .eeprom-clean)
 way-clean text x e h (long f l k) = rw k (h .flash-clean, h .eeprom-clean)
 way-clean text x e h (bad f l a n w k) = rw k (h .flash-clean, h .eeprom-clean)
 way-clean text x e h (played f l b rs q z d k) =
-    let m = machineAtStart b (x .flash) (x .eeprom) in
+    let m = startWith b x in
     rw (k ∙ left-shown b rs (readable-back q) m z d) (left-clean b _ _ _ m (record { flash = h .flash-clean; eeprom = h .eeprom-clean }))
 
 -- lent buffers that fit are given back with no bit set both in a value and in its mask, whatever the text and the answer
@@ -172,7 +172,7 @@ pub replies-disjoint : {text : List ℕ} {x : Buffers} {e : Ended} {b : Board} {
 unfolding leftBy
 replies-disjoint {text} {x} {e} {b} {rs} p f l q k =
     let h = fit-says x f in
-    let m = machineAtStart b (x .flash) (x .eeprom) in
+    let m = startWith b x in
     let z = call-left p f l q in
     let ps = recordsOf b (z .0) rs in
     rw (z .2) (padded-sure ps (said (head b) ps m) (said-sure b ps m (record { flash = h .flash-clean; eeprom = h .eeprom-clean })) k)

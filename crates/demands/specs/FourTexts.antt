@@ -6,7 +6,7 @@ use native.Mathlib.Omega.{arith}
 use lib.ListN.{length, length-append}
 use Rattle.meaning.specs.Lists.{filter, keep, All}
 use Rattle.meaning.specs.Meaning.{F, L, after}
-use Rattle.meaning.specs.Groups.{goesOn}
+use Rattle.meaning.specs.Onward.{goesOn}
 use Rattle.meaning.specs.Steps.{means-end}
 use Rattle.record.specs.declared.Board.{Board}
 use Rattle.record.specs.declared.Record.{Record}
@@ -116,10 +116,10 @@ module _ (f e : Image) where
   pub listing-settled : (so : ℕ) → Answered (listing so) f e 0
   unfolding filter keep All after playOn movedOf flashAfter eepromAfter shown shownAs goesOn
   listing-settled so =
-      let last = stamp-passes (head plain) (onL 80 SupplyOff ∷ []) [] 80 (refl, tt) tt (omega arith) (omega arith) (omega arith) (told so) refl
+      let last = stamp-passes (head plain) (onL 80 SupplyOff ∷ []) [] 80 (refl, tt) tt refl (told so) refl
       (one-channel (head plain) L (onL 80 SupplyOff ∷ []) (refl, tt) (told so)) refl _ (means-end (head plain) _ refl) in (
         _,
-        stamp-passes (head plain) (asked so) (onL 80 SupplyOff ∷ []) 10 (refl, (refl, (refl, (refl, tt)))) (omega arith, tt) (omega arith) (omega arith) (omega arith) (machineAtStart plain f e) refl
+        stamp-passes (head plain) (asked so) (onL 80 SupplyOff ∷ []) 10 (refl, (refl, (refl, (refl, tt)))) (omega arith, tt) refl (machineAtStart plain f e) refl
             (one-channel (head plain) F (asked so) (refl, (refl, (refl, (refl, tt)))) (machineAtStart plain f e)) refl _ last,
         refl,
       )
@@ -133,14 +133,14 @@ module _ (f e : Image) where
   pub programmed-settled : Answered programmed f e 0
   unfolding filter keep All after playOn movedOf flashAfter eepromAfter shown shownAs goesOn
   programmed-settled =
-      let last = stamp-passes (head plain) (onF 30 flash.End ∷ []) [] 30 (refl, tt) tt (omega arith) (omega arith) (omega arith) busy refl
+      let last = stamp-passes (head plain) (onF 30 flash.End ∷ []) [] 30 (refl, tt) tt refl busy refl
       (one-channel (head plain) F (onF 30 flash.End ∷ []) (refl, tt) busy) refl _ (means-end (head plain) _ refl) in
-      let next = stamp-passes (head plain) sent (onF 30 flash.End ∷ []) 20 (refl, (refl, (refl, (refl, (refl, (refl, (refl, tt))))))) (omega arith, tt) (omega arith) (omega arith) (omega arith) enabled refl
+      let next = stamp-passes (head plain) sent (onF 30 flash.End ∷ []) 20 (refl, (refl, (refl, (refl, (refl, (refl, (refl, tt))))))) (omega arith, tt) refl enabled refl
       (one-channel (head plain) F sent (refl, (refl, (refl, (refl, (refl, (refl, (refl, tt))))))) enabled) refl _ last in (
         _,
         stamp-passes (head plain) (wren 10) (sent ++ (onF 30 flash.End ∷ [])) 10 (refl, (refl, (refl, tt)))
             (omega arith, (omega arith, (omega arith, (omega arith, (omega arith, (omega arith, (omega arith, (omega arith, tt))))))))
-            (omega arith) (omega arith) (omega arith) (machineAtStart plain f e) refl
+            refl (machineAtStart plain f e) refl
             (one-channel (head plain) F (wren 10) (refl, (refl, (refl, tt))) (machineAtStart plain f e)) refl _ next,
         refl,
       )

@@ -11,7 +11,6 @@ pub mod Replies
 pub mod Shown
 pub mod Count
 pub mod Disjoint
-pub mod Apart
 pub mod Rewritten
 pub mod OrderOfLines
 pub mod OneStamp

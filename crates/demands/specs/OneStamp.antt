@@ -1,16 +1,18 @@
 -- A stamp whose records are all of one channel settles: they have one order only. And a stamp is not crowded where its records are few.
-use mathlib.Core.Path.{_≡_, sym, ap, _∙_}
-use mathlib.Core.Bool.{false}
-use mathlib.Core.Logic.{_⊎_, ⊎-elim}
-use mathlib.Core.List.{List, _++_}
+use mathlib.Core.Path.{_≡_, sym, ap, subst, _∙_}
+use mathlib.Core.Bool.{Bool, true, false}
+use mathlib.Core.List.{List, [], _∷_, _++_}
 use Prim.Native.Nat.{ℕ, _≤_, _<_}
 use native.Mathlib.Omega.{arith}
+use lib.Dec.{leb}
 use lib.ListN.{length}
+use borrow.Author.Tests.{leb-true}
+use Rattle.law.specs.Choice.{pick, both}
 use Rattle.meaning.specs.Lists.{All, all-map, filter-all}
-use Rattle.meaning.specs.Meaning.{Channel, F, E, L, same, Rules, of, Allowed, after, outcome, Alike, Crowded, Answer, Means}
-use Rattle.meaning.specs.Groups.{goesOn}
-use Rattle.meaning.specs.Allowing.{itself, allowed-all, same-self}
-use Rattle.meaning.specs.Joints.{In, level}
+use Rattle.meaning.specs.Meaning.{Channel, most, same, Rules, of, Allowed, after, outcome, Alike, Crowded, Answer, Means}
+use Rattle.meaning.specs.Channels.{channels, every-channel, same-self}
+use Rattle.meaning.specs.Onward.{goesOn}
+use Rattle.meaning.specs.Allowing.{In, level, itself, allowed-all}
 use Rattle.meaning.specs.Steps.{at-here, means-on}
 
 module _ {A S R : Type 0} (m : Rules A S R) where
@@ -24,14 +26,24 @@ module _ {A S R : Type 0} (m : Rules A S R) where
   unfolding Alike
   one-channel c p h s o q a b = ap (λ (l : List A). outcome m l s) (one-order c p o h a ∙ sym (one-order c p q h b))
 
+  -- no channel is above its most
+  abbrev pub within : List Channel → List A → Bool
+  within [] p = true
+  within (c ∷ cs) p = pick (leb (length (of m c p)) (most c)) (within cs p) false
+
+  within-all : (cs : List Channel) (p : List A) → within cs p ≡ true → All (λ c. length (of m c p) ≤ most c) cs
+  unfolding All
+  within-all [] p h = tt
+  within-all (c ∷ cs) p h = let k = both _ _ h in (leb-true _ _ (k .0), within-all cs p (k .1))
+
   -- p the records of the stamp t, rest those above
-  module _ (p rest : List A) (t : ℕ) (hp : All (λ (a : A). m .stamp a ≡ t) p) (hr : All (λ (a : A). t < m .stamp a) rest)
-      (f : length (of m F p) ≤ 8) (e : length (of m E p) ≤ 8) (l : length (of m L p) ≤ 2) where
+  module _ (p rest : List A) (t : ℕ) (hp : All (λ (a : A). m .stamp a ≡ t) p) (hr : All (λ (a : A). t < m .stamp a) rest) (f : within channels p ≡ true) where
     pub few : Crowded m (p ++ rest) t → ⊥
     unfolding Crowded
     few h =
-        let k : (8 < length (of m F p)) ⊎ ((8 < length (of m E p)) ⊎ (2 < length (of m L p))) = rw (at-here m p rest t hp hr) at h in
-        ⊎-elim (λ x. omega arith) (λ y. ⊎-elim (λ x. omega arith) (λ x. omega arith) y) k
+        let k : most (h .0) < length (of m (h .0) p) = subst (λ (l : List A). most (h .0) < length (of m (h .0) l)) (at-here m p rest t hp hr) (h .1) in
+        let l = every-channel (λ c. length (of m c p) ≤ most c) (within-all channels p f) (h .0) in
+        omega arith
 
     -- where its orders end alike and keep the status, the answer is that of the rest from there on
     pub stamp-passes : (s : S) → m .lost s ≡ false → Alike m p s → m .lost (after m p s) ≡ false →

@@ -7,8 +7,9 @@ use lib.Dec.{ltb}
 use lib.ListN.{length}
 use Rattle.law.specs.Choice.{split}
 use Rattle.meaning.specs.Lists.{keep, filter}
-use Rattle.meaning.specs.Meaning.{Channel, F, E, L, same, Outcome, of, Allowed, NeverBack, Agreed, Means, after, replies, outcome}
+use Rattle.meaning.specs.Meaning.{Channel, same, Outcome, of, Allowed, NeverBack, Agreed, Means, after, replies, outcome}
 use Rattle.meaning.specs.Meaning as meaning
+use Rattle.meaning.specs.Sums.{sum, ofChannel, total, total-apart, total-same}
 use Rattle.meaning.specs.Allowing.{allowed-part, itself, back-filter}
 use Rattle.meaning.specs.Listing.{said}
 use Rattle.meaning.specs.Answers as answers
@@ -16,14 +17,13 @@ use Rattle.record.specs.declared.Board.{Board}
 use Rattle.record.specs.declared.Record.{Record}
 use Rattle.record.specs.declared.Reply.{Reply}
 use Rattle.machine.specs.Replies.{compared}
-use Rattle.machine.specs.Machine.{Machine, machineAtStart, channelOf, head, playOn, saysOn}
+use Rattle.machine.specs.Machine.{Machine, channelOf, head, playOn, saysOn}
 use Rattle.text.specs.Texts.{textLimit, spelledTrace, Readable}
 use Rattle.buffers.specs.Buffers.{Buffers, fit, resultBytes}
 use Rattle.call.specs.Play.{twos}
-use Rattle.call.specs.Replay.{Ended, countTwos, shown, Replays}
+use Rattle.call.specs.Replay.{Ended, countTwos, shown, Replays, startWith}
 use Rattle.demands.specs.Readable.{readable-back}
 use Rattle.demands.specs.Shown.{numberOf, stampOf, recordsOf, outcomeOf, leftBy, left-shown}
-use Rattle.demands.specs.Apart.{ofChannel, total, total-apart, total-same}
 use Rattle.demands.specs.Rewritten.{lines-readable, lines-length}
 
 -- a record with its reply
@@ -55,16 +55,6 @@ replied-is c b (r ∷ ps) m =
     ap (keep (same c (channelOf (r .event))) (r, saysOn b m r)) (replied-is c b ps (playOn b m r))
     ∙ keep-paired (same c (channelOf (r .event))) r (saysOn b m r) (of (head b) c ps) (replies (head b) c ps (playOn b m r))
 
-abbrev pub repliesIn : Channel → Outcome Machine Reply → List Reply
-repliesIn F v = v .flash
-repliesIn E v = v .eeprom
-repliesIn L v = v .lines
-
-replies-in : (c : Channel) (b : Board) (ps : List Record) (m : Machine) → replies (head b) c ps m ≡ repliesIn c (outcome (head b) ps m)
-replies-in F b ps m = refl
-replies-in E b ps m = refl
-replies-in L b ps m = refl
-
 -- ---- the count is a sum over the records with their replies
 weight : Replied → ℕ
 weight a = twos (compared (a .0 .event) (a .1))
@@ -75,10 +65,9 @@ count-total [] ys = refl
 count-total (r ∷ rs) [] = refl
 count-total (r ∷ rs) (y ∷ ys) = ap (λ (n : ℕ). twos (compared (r .event) y) + n) (count-total rs ys)
 
--- of records played as they are written it is the sum over the three channels, each with its own replies
-pub count-channels : (b : Board) (ps : List Record) (m : Machine) → countTwos ps (said (head b) ps m)
-    ≡ countTwos (of (head b) F ps) (replies (head b) F ps m) + (countTwos (of (head b) E ps) (replies (head b) E ps m) + countTwos (of (head b) L ps) (replies (head b) L ps m))
-count-channels b ps m = count-total ps (said (head b) ps m) ∙ total-apart channelIn weight (paired ps (said (head b) ps m)) ∙ ap₂ (λ (x y : ℕ). x + y) (one F) (ap₂ (λ (x y : ℕ). x + y) (one E) (one L))
+-- of records played as they are written it is the sum over the channels, each with its own replies
+pub count-channels : (b : Board) (ps : List Record) (m : Machine) → countTwos ps (said (head b) ps m) ≡ sum (λ c. countTwos (of (head b) c ps) (replies (head b) c ps m))
+count-channels b ps m = count-total ps (said (head b) ps m) ∙ total-apart channelIn weight (paired ps (said (head b) ps m)) ∙ (λ i. sum (λ c. one c i))
   where
     one : (c : Channel) → total channelIn weight (repliedOf c b ps m) ≡ countTwos (of (head b) c ps) (replies (head b) c ps m)
     one c = ap (total channelIn weight) (replied-is c b ps m) ∙ sym (count-total (of (head b) c ps) (replies (head b) c ps m))
@@ -95,7 +84,7 @@ module _ (b : Board) (ps qs : List Record) (m : Machine) (keeps : (c : Channel) 
   replied-same : (c : Channel) → repliedOf c b qs m ≡ repliedOf c b ps m
   replied-same c =
       replied-is c b qs m
-      ∙ ap₂ paired (keeps c) (replies-in c b qs m ∙ ap (repliesIn c) alike ∙ sym (replies-in c b ps m))
+      ∙ ap₂ paired (keeps c) (ap (λ (v : Outcome Machine Reply). v .replies c) alike)
       ∙ sym (replied-is c b ps m)
 
   state-same : after (head b) qs m ≡ after (head b) ps m
@@ -142,7 +131,7 @@ module _ (b : Board) (rs ls : List Record) (a : Allowed (head b) rs ls) (back : 
 module _ {text : List ℕ} {x : Buffers} {e e′ : Ended} {b : Board} {rs ls : List Record}
     (q : Readable text b rs) (a : Allowed (head b) rs ls) (p : Replays text x e) (p′ : Replays (spelledTrace b ls) x e′) where
   abbrev start : Machine
-  start = machineAtStart b (x .flash) (x .eeprom)
+  start = startWith b x
 
   within : (t : Bool) → ltb textLimit (length text) ≡ t → ltb textLimit (length (spelledTrace b ls)) ≡ t
   within t l = ap (ltb textLimit) (lines-length b rs ls a ∙ sym (ap length (q .is))) ∙ l

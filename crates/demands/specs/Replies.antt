@@ -17,11 +17,11 @@ use Rattle.record.specs.declared.Skeleton.the-variants as skeleton
 use Rattle.record.specs.Replies.{replyKind}
 use Rattle.image.specs.Image.{Image}
 use Rattle.machine.specs.Replies.{delivered}
-use Rattle.machine.specs.Machine.{Machine, machineAtStart, head, saysOn}
+use Rattle.machine.specs.Machine.{Machine, head, saysOn}
 use Rattle.text.specs.Texts.{textLimit, Readable}
 use Rattle.buffers.specs.Buffers.{Buffers, repliesLength, fit, resultBytes}
 use Rattle.call.specs.Play.{replyLine}
-use Rattle.call.specs.Replay.{Ended, replyLines, countTwos, padded, Replays}
+use Rattle.call.specs.Replay.{Ended, replyLines, countTwos, padded, Replays, startWith}
 use Rattle.demands.specs.Readable.{readable-back}
 use Rattle.demands.specs.Stops.{StopsAt, stop-shows, settled-shows}
 
@@ -69,7 +69,7 @@ kind-says b s r = delivered-kind _ _
 
 module _ {text : List ℕ} {x : Buffers} {e : Ended} {b : Board} {rs : List Record} (p : Replays text x e) (f : fit x ≡ true) (l : length text ≤ textLimit) (q : Readable text b rs) where
   abbrev start : Machine
-  start = machineAtStart b (x .flash) (x .eeprom)
+  start = startWith b x
 
   -- settled: the replies and the count of all lines, played as they stand
   pub settled-lines : e .answer ≡ 0 → e .buffers .replies ≡ padded (replyLines rs (said (head b) rs start))

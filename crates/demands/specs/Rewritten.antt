@@ -23,7 +23,7 @@ use Rattle.text.specs.declared.buses.Moves.{Moves}
 use Rattle.text.specs.Buses.{flashBus, eepromBus, withFlash, withEeprom, after, busesAfter}
 use Rattle.text.specs.Stamps as stamps
 use Rattle.text.specs.Texts.{spelledAll, spelledTrace, AllOk, Readable}
-use Rattle.demands.specs.Apart.{total, total-same}
+use Rattle.meaning.specs.Sums.{total, total-same}
 
 -- ---- each line by itself
 ok-all : (rs : List Record) → AllOk rs → All RecordOk rs

@@ -9,7 +9,9 @@ use lib.Dec.{eqb}
 use Rattle.law.specs.declared.Numbers.{Numbers}
 use Rattle.law.specs.Choice.{pick, split}
 use Rattle.law.specs.Deciding.{Decides, decides-true, decides-false, decides-as, eqb-decides, beq-decides}
-use Rattle.meaning.specs.Meaning.{Outcome}
+use Rattle.meaning.specs.Lists.{All}
+use Rattle.meaning.specs.Meaning.{Channel, Outcome}
+use Rattle.meaning.specs.Channels.{channels, every-channel}
 use Rattle.record.specs.declared.Lines.{Lines}
 use Rattle.record.specs.declared.Reply.{Reply}
 use Rattle.record.specs.declared.Reply.the-variants.{NotPlayed, Silent, Byte, Ack, NoAck, Starts, Ends, NoCycle}
@@ -131,11 +133,26 @@ reply a b =
     (λ p. sym (reply-back a) ∙ (λ i. replyOf (p .0 i) (p .1 .0 i) (p .1 .1 i)) ∙ reply-back b)
     (λ e. (ap replyKind e, (ap replyValue e, ap replyMask e)))
 
+-- ---- each channel's
+module _ (P : Channel → Type 0) where
+  tell-each : ((c : Channel) → Tells (P c)) → (cs : List Channel) → Tells (All P cs)
+  unfolding All
+  tell-each t [] = yes tt
+  tell-each t (c ∷ cs) = both (t c) (tell-each t cs)
+
+  for-each : ((c : Channel) → P c) → (cs : List Channel) → All P cs
+  unfolding All
+  for-each h [] = tt
+  for-each h (c ∷ cs) = (h c, for-each h cs)
+
+  each : ((c : Channel) → Tells (P c)) → Tells ((c : Channel) → P c)
+  each t = same (tell-each t channels) (every-channel P) (λ h. for-each h channels)
+
 outcomes : (a b : Outcome Machine Reply) → Tells (a ≡ b)
 outcomes a b =
-    same (both (machine (a .state) (b .state)) (both (list reply (a .flash) (b .flash)) (both (list reply (a .eeprom) (b .eeprom)) (list reply (a .lines) (b .lines)))))
-    (λ p i. record { state = p .0 i; flash = p .1 .0 i; eeprom = p .1 .1 .0 i; lines = p .1 .1 .1 i })
-    (λ e. (ap (λ (k : Outcome Machine Reply). k .state) e, (ap (λ (k : Outcome Machine Reply). k .flash) e, (ap (λ (k : Outcome Machine Reply). k .eeprom) e, ap (λ (k : Outcome Machine Reply). k .lines) e))))
+    same (both (machine (a .state) (b .state)) (each (λ c. a .replies c ≡ b .replies c) (λ c. list reply (a .replies c) (b .replies c))))
+    (λ p i. record { state = p .0 i; replies = λ c. p .1 c i })
+    (λ e. (ap (λ (k : Outcome Machine Reply). k .state) e, λ c. ap (λ (k : Outcome Machine Reply). k .replies c) e))
 
 pub tell : (v w : Outcome Machine Reply) → (v ≡ w) ⊎ (v ≡ w → ⊥)
 tell v w = let t = outcomes v w in split (t .0) (λ e. inl (t .1 .holds e)) (λ e. inr (t .1 .fails e))

@@ -6,16 +6,27 @@ use Prim.Native.Nat.{ℕ, _≤_, _<_}
 use native.Mathlib.Omega.{arith}
 use lib.Dec.{leb, ltb}
 use borrow.Author.Tests.{leb-true, leb-false, le-leb, lt-leb, lt-ltb, le-ltb}
-use Rattle.meaning.specs.Lists.{filter, keep, All, all-map, all-append, all-filter, filter-append, filter-both, filter-all, filter-none}
-use Rattle.meaning.specs.Meaning.{Channel, F, E, L, same, Rules, of, NeverBack, Allowed}
+use Rattle.meaning.specs.Lists.{filter, keep, All, all-map, all-append, all-filter, all-pass, filter-append, filter-both, filter-all, filter-none}
+use Rattle.meaning.specs.Meaning.{Channel, same, Rules, of, NeverBack, Allowed}
+use Rattle.meaning.specs.Channels.{same-self, same-is}
 use Rattle.law.specs.Choice.{true-not-false}
 
-pub same-self : (c : Channel) → same c c ≡ true
-same-self F = refl
-same-self E = refl
-same-self L = refl
-
 module _ {A S R : Type 0} (m : Rules A S R) where
+  -- a record of the channel
+  abbrev pub In : Channel → A → Type 0
+  In c a = m .channel a ≡ c
+
+  pub in-channel : (c : Channel) (rs : List A) → All (In c) (of m c rs)
+  in-channel c rs = all-pass (In c) _ (λ a e. same-is c (m .channel a) e) rs
+
+  -- records of one stamp never go back
+  pub level : (t : ℕ) (o : List A) → All (λ (a : A). m .stamp a ≡ t) o → NeverBack m o
+  unfolding NeverBack All
+  level t [] h = tt
+  level t (a ∷ o) h =
+      let e : m .stamp a ≡ t = h .0 in
+      (all-map _ _ (λ b k. omega arith) o (h .1), level t o (h .1))
+
   pub itself : (rs : List A) → NeverBack m rs → Allowed m rs rs
   itself rs h = record { keeps = λ c. refl; onward = h }
 

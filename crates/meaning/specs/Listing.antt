@@ -1,26 +1,25 @@
 -- The replies line by line: each line takes the next of its channel's replies, so what a replay shows is what playing the lines as written gives. By the lines, each by its channel.
 use mathlib.Core.Path.{_≡_, refl, sym, ap, _∙_}
-use mathlib.Core.Bool.{true, false}
-use mathlib.Core.List.{List, [], _∷_}
+use mathlib.Core.Bool.{Bool, true, false}
+use mathlib.Core.List.{List, [], _∷_, _++_}
 use Prim.Native.Nat.{ℕ}
+use lib.ListN.{take, drop}
 use Rattle.meaning.specs.Lists.{keep}
-use Rattle.meaning.specs.Meaning.{Channel, F, E, L, same, Rules, Outcome, Reason, Answer, settled, stopped, NeverBack, Allowed, after, replies, outcome, before, upto, Agreed, Alike, Lost}
+use Rattle.meaning.specs.Meaning.{Channel, same, Rules, Outcome, Reason, Answer, settled, stopped, NeverBack, Allowed, after, replies, outcome, before, upto, Agreed, Alike, Lost}
+use Rattle.law.specs.Choice.{pick, true-not-false}
+use Rattle.meaning.specs.Channels.{same-self}
 use Rattle.meaning.specs.Allowing.{itself, back-filter}
 
--- the next reply of a channel, then the rest by k
-unfoldable pub next : {R : Type 0} → Channel → (List R → List R → List R → List R) → List R → List R → List R → List R
-next F k [] e l = []
-next F k (r ∷ f) e l = r ∷ k f e l
-next E k f [] l = []
-next E k f (r ∷ e) l = r ∷ k f e l
-next L k f e [] = []
-next L k f e (r ∷ l) = r ∷ k f e l
+-- what is kept in front is the next, and behind it is the rest
+next-kept : {R : Type 0} (t : Bool) (r : R) (l k : List R) → t ≡ true → take 1 (keep t r l) ++ k ≡ r ∷ k
+unfolding keep
+next-kept true r l k e = refl
+next-kept false r l k e = absurd (true-not-false (sym e))
 
-next-own : {R : Type 0} (c : Channel) (k : List R → List R → List R → List R) (r : R) (f e l : List R) → next c k (keep (same F c) r f) (keep (same E c) r e) (keep (same L c) r l) ≡ r ∷ k f e l
-unfolding next keep
-next-own F k r f e l = refl
-next-own E k r f e l = refl
-next-own L k r f e l = refl
+rest-kept : {R : Type 0} (t : Bool) (r : R) (l : List R) → pick t (drop 1 (keep t r l)) (keep t r l) ≡ l
+unfolding keep
+rest-kept true r l = refl
+rest-kept false r l = refl
 
 module _ {A S R : Type 0} (m : Rules A S R) where
   -- the replies to the lines as written, each in its place
@@ -28,18 +27,21 @@ module _ {A S R : Type 0} (m : Rules A S R) where
   said [] s = []
   said (a ∷ o) s = m .says s a ∷ said o (m .play s a)
 
-  -- an outcome's replies, each at its line
-  unfoldable pub laid : List A → List R → List R → List R → List R
-  laid [] f e l = []
-  laid (a ∷ rs) f e l = next (m .channel a) (laid rs) f e l
+  -- an outcome's replies, each at its line: a line takes the next of its channel's, and leaves the rest
+  unfoldable pub laid : List A → (Channel → List R) → List R
+  laid [] f = []
+  laid (a ∷ rs) f = take 1 (f (m .channel a)) ++ laid rs (λ c. pick (same c (m .channel a)) (drop 1 (f c)) (f c))
 
   abbrev pub shownAt : List A → Outcome S R → List R
-  shownAt rs v = laid rs (v .flash) (v .eeprom) (v .lines)
+  shownAt rs v = laid rs (v .replies)
 
   pub laid-said : (rs : List A) (s : S) → shownAt rs (outcome m rs s) ≡ said rs s
   unfolding laid said replies
   laid-said [] s = refl
-  laid-said (a ∷ rs) s = next-own (m .channel a) (laid rs) (m .says s a) _ _ _ ∙ ap (λ (k : List R). m .says s a ∷ k) (laid-said rs (m .play s a))
+  laid-said (a ∷ rs) s =
+      next-kept (same (m .channel a) (m .channel a)) (m .says s a) _ _ (same-self (m .channel a))
+      ∙ ap (λ (k : List R). m .says s a ∷ k)
+      ((λ i. laid rs (λ c. rest-kept (same c (m .channel a)) (m .says s a) (replies m c rs (m .play s a)) i)) ∙ laid-said rs (m .play s a))
 
   -- where all allowed orders end as v, the lines as written do, and each line's reply is what v shows for it
   pub agreed-lines : (rs : List A) → NeverBack m rs → (s : S) (v : Outcome S R) → Agreed m rs s v → (v .state ≡ after m rs s) × (shownAt rs v ≡ said rs s)

@@ -2,7 +2,6 @@
 use mathlib.Core.Path.{_≡_}
 use mathlib.Core.Bool.{Bool, true, false}
 use mathlib.Core.List.{List, [], _∷_}
-use mathlib.Core.Logic.{_⊎_}
 use Prim.Native.Nat.{ℕ, _≤_, _<_}
 use lib.ListN.{length}
 use lib.Dec.{leb, ltb, eqb}
@@ -11,16 +10,20 @@ use Rattle.meaning.specs.Lists.{filter, keep, All}
 pub data Channel : Type 0 where
   F E L : Channel
 
+-- channels are told apart by their numbers
+abbrev pub number : Channel → ℕ
+number F = 0
+number E = 1
+number L = 2
+
 abbrev pub same : Channel → Channel → Bool
-same F F = true
-same F E = false
-same F L = false
-same E F = false
-same E E = true
-same E L = false
-same L F = false
-same L E = false
-same L L = true
+same c d = eqb (number c) (number d)
+
+-- the most records of a channel that may share a stamp
+abbrev pub most : Channel → ℕ
+most F = 8
+most E = 8
+most L = 2
 
 -- the machine: A a record of the trace, S the board's state, R a reply
 pub record Rules (A S R : Type 0) : Type 0 where
@@ -33,9 +36,7 @@ pub record Rules (A S R : Type 0) : Type 0 where
 -- how an order ends: the board's state, and each channel's replies in the channel's own order
 pub record Outcome (S R : Type 0) : Type 0 where
   pub state : S
-  pub flash : List R
-  pub eeprom : List R
-  pub lines : List R
+  pub replies : Channel → List R
 
 pub data Reason : Type 0 where
   crowded differ lost : Reason
@@ -70,7 +71,7 @@ module _ {A S R : Type 0} (m : Rules A S R) where
   replies c (a ∷ o) s = keep (same c (m .channel a)) (m .says s a) (replies c o (m .play s a))
 
   abbrev pub outcome : List A → S → Outcome S R
-  outcome o s = record { state = after o s; flash = replies F o s; eeprom = replies E o s; lines = replies L o s }
+  outcome o s = record { state = after o s; replies = λ c. replies c o s }
 
   -- the records so far by a stamp, those before it, and its own
   abbrev pub upto : ℕ → List A → List A
@@ -92,7 +93,7 @@ module _ {A S R : Type 0} (m : Rules A S R) where
 
   -- the three reasons at a stamp t of the trace rs, played from s
   unfoldable pub Crowded : List A → ℕ → Type 0
-  Crowded rs t = (8 < length (of F (at t rs))) ⊎ ((8 < length (of E (at t rs))) ⊎ (2 < length (of L (at t rs))))
+  Crowded rs t = (c : Channel) × (most c < length (of c (at t rs)))
 
   unfoldable pub Differ : List A → S → ℕ → Type 0
   Differ rs s t = Alike (upto t rs) s → ⊥

@@ -6,7 +6,7 @@ use mathlib.Core.Logic.{⊎-elim}
 use Prim.Native.Nat.{ℕ}
 use lib.Dec.{eqb}
 use Rattle.meaning.specs.Lists.{filter, filter-both}
-use Rattle.meaning.specs.Meaning.{Channel, F, E, L, Rules, Outcome, Reason, crowded, differ, lost, Answer, settled, stopped, of, NeverBack, Allowed, before, Agreed, Alike, Crowded, Differ, Lost, Holds, FirstReason, Passes, Earliest, Means}
+use Rattle.meaning.specs.Meaning.{Channel, most, Rules, Outcome, Reason, crowded, differ, lost, Answer, settled, stopped, of, NeverBack, Allowed, before, Agreed, Alike, Crowded, Differ, Lost, Holds, FirstReason, Passes, Earliest, Means}
 use Rattle.meaning.specs.Allowing.{itself, back-filter}
 use Rattle.meaning.specs.Steps.{three, first-holds}
 
@@ -63,7 +63,7 @@ module _ {A S R : Type 0} (m : Rules A S R) where
 
     kept-holds : (s : S) (n : Reason) (t : ℕ) → Holds m rs s n t → Holds m ls s n t
     unfolding Holds Crowded Differ Lost
-    kept-holds s crowded t h = rw (kept-part (λ (a : A). eqb (m .stamp a) t) F, kept-part (λ (a : A). eqb (m .stamp a) t) E, kept-part (λ (a : A). eqb (m .stamp a) t) L) h
+    kept-holds s crowded t h = (h .0, rw (kept-part (λ (a : A). eqb (m .stamp a) t) (h .0)) (h .1))
     kept-holds s differ t h = λ k. h (kept-alike _ s k)
     kept-holds s lost t h = (h .0, kept-allowed _ (h .0) (h .1), h .2)
 

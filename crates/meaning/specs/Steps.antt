@@ -8,9 +8,9 @@ use native.Mathlib.Omega.{arith}
 use lib.ListN.{length}
 use lib.Dec.{ltb}
 use borrow.Author.Tests.{ltb-true, ltb-false, le-leb, lt-leb, lt-ltb, le-ltb, eq-eqb, ne-eqb}
-use Rattle.meaning.specs.Lists.{filter, keep, All, all-map, all-filter, filter-none, front-in, front-out}
-use Rattle.meaning.specs.Meaning.{Channel, F, E, L, same, Rules, Outcome, Reason, crowded, differ, lost, Answer, settled, stopped, of, Allowed, after, replies, outcome, upto, before, at, Agreed, Alike, Crowded, Differ, Lost, Holds, FirstReason, Passes, Means}
-use Rattle.meaning.specs.Groups.{andThen, goesOn}
+use Rattle.meaning.specs.Lists.{filter, keep, keep-append, All, all-map, all-filter, filter-none, front-in, front-out}
+use Rattle.meaning.specs.Meaning.{Channel, most, same, Rules, Outcome, Reason, crowded, differ, lost, Answer, settled, stopped, of, Allowed, after, replies, outcome, upto, before, at, Agreed, Alike, Crowded, Differ, Lost, Holds, FirstReason, Passes, Means}
+use Rattle.meaning.specs.Onward.{andThen, goesOn}
 use Rattle.meaning.specs.Allowing.{allowed-nothing, allowed-append, allowed-split}
 use Rattle.law.specs.Choice.{true-not-false}
 
@@ -32,30 +32,18 @@ module _ {A S R : Type 0} (m : Rules A S R) where
   after-append [] p s = refl
   after-append (a ∷ o) p s = after-append o p (m .play s a)
 
-  keep-front : (b : Bool) (r : R) (l k : List R) → keep b r (l ++ k) ≡ keep b r l ++ k
-  unfolding keep
-  keep-front true r l k = refl
-  keep-front false r l k = refl
-
   pub replies-append : (c : Channel) (o p : List A) (s : S) → replies m c (o ++ p) s ≡ replies m c o s ++ replies m c p (after m o s)
   unfolding after replies
   replies-append c [] p s = refl
-  replies-append c (a ∷ o) p s = ap (keep (same c (m .channel a)) (m .says s a)) (replies-append c o p (m .play s a)) ∙ keep-front _ _ _ _
+  replies-append c (a ∷ o) p s = ap (keep (same c (m .channel a)) (m .says s a)) (replies-append c o p (m .play s a)) ∙ keep-append _ _ _ _
 
   pub outcome-append : (o p : List A) (s : S) → outcome m (o ++ p) s ≡ andThen (outcome m o s) (outcome m p (after m o s))
-  outcome-append o p s = λ i. record {
-    state = after-append o p s i;
-    flash = replies-append F o p s i;
-    eeprom = replies-append E o p s i;
-    lines = replies-append L o p s i;
-  }
+  outcome-append o p s = λ i. record { state = after-append o p s i; replies = λ c. replies-append c o p s i }
 
   pub then-cancel : (v w x : Outcome S R) → andThen v w ≡ andThen v x → w ≡ x
   then-cancel v w x e =
-      let f = append-cancel-left (v .flash) (w .flash) (x .flash) (ap (λ (y : Outcome S R). y .flash) e) in
-      let g = append-cancel-left (v .eeprom) (w .eeprom) (x .eeprom) (ap (λ (y : Outcome S R). y .eeprom) e) in
-      let h = append-cancel-left (v .lines) (w .lines) (x .lines) (ap (λ (y : Outcome S R). y .lines) e) in
-      λ i. record { state = e i .state; flash = f i; eeprom = g i; lines = h i }
+      let f : (c : Channel) → w .replies c ≡ x .replies c = λ c. append-cancel-left (v .replies c) (w .replies c) (x .replies c) (ap (λ (y : Outcome S R). y .replies c) e) in
+      λ i. record { state = e i .state; replies = λ c. f c i }
 
   -- where there is no record so far, and the status is not lost, nothing holds
   nothing-agreed : (s : S) → Agreed m [] s (outcome m [] s)
@@ -68,16 +56,10 @@ module _ {A S R : Type 0} (m : Rules A S R) where
 
   pub not-crowded-nothing : (rs : List A) (u : ℕ) → at m u rs ≡ [] → Crowded m rs u → ⊥
   unfolding Crowded filter
-  not-crowded-nothing rs u e h = ⊎-elim (λ x. few F x) (λ k. ⊎-elim (λ x. few E x) (λ x. few2 L x) k) h
-    where
-      none : (c : Channel) → length (of m c (at m u rs)) ≡ 0
-      none c = rw e
-
-      few : (c : Channel) → 8 < length (of m c (at m u rs)) → ⊥
-      few c x = omega (arith, none c)
-
-      few2 : (c : Channel) → 2 < length (of m c (at m u rs)) → ⊥
-      few2 c x = omega (arith, none c)
+  not-crowded-nothing rs u e h =
+      let none : length (of m (h .0) (at m u rs)) ≡ 0 = rw e in
+      let k : most (h .0) < length (of m (h .0) (at m u rs)) = h .1 in
+      omega arith
 
   pub nothing-passes : (rs : List A) (s : S) (u : ℕ) → m .lost s ≡ false → at m u rs ≡ [] → upto m u rs ≡ [] → Passes m rs s u
   unfolding Passes Holds Differ Lost after

@@ -4,9 +4,9 @@ use mathlib.Core.Bool.{false}
 use mathlib.Core.List.{List, [], _∷_, _++_, append-nil, append-assoc}
 use Prim.Native.Nat.{ℕ, _≤_, _<_}
 use native.Mathlib.Omega.{arith}
-use Rattle.meaning.specs.Lists.{All, all-map}
+use Rattle.meaning.specs.Lists.{All, all-map, all-behind}
 use Rattle.meaning.specs.Meaning.{Rules, Outcome, Reason, Answer, settled, stopped, NeverBack, Allowed, Alike, Crowded, after, replies, outcome, Means}
-use Rattle.meaning.specs.Groups.{andThen, goesOn}
+use Rattle.meaning.specs.Onward.{andThen, goesOn}
 use Rattle.meaning.specs.Steps.{means-end, means-on}
 
 module _ {A S R : Type 0} (m : Rules A S R) where
@@ -21,12 +21,7 @@ module _ {A S R : Type 0} (m : Rules A S R) where
   goes-nothing s (stopped n t w) = refl
 
   then-then : (v w x : Outcome S R) → andThen (andThen v w) x ≡ andThen v (andThen w x)
-  then-then v w x = λ i. record {
-    state = x .state;
-    flash = append-assoc (v .flash) (w .flash) (x .flash) i;
-    eeprom = append-assoc (v .eeprom) (w .eeprom) (x .eeprom) i;
-    lines = append-assoc (v .lines) (w .lines) (x .lines) i;
-  }
+  then-then v w x = λ i. record { state = x .state; replies = λ c. append-assoc (v .replies c) (w .replies c) (x .replies c) i }
 
   goes-goes : (v w : Outcome S R) (y : Answer S R) → goesOn (andThen v w) y ≡ goesOn v (goesOn w y)
   unfolding goesOn
@@ -35,7 +30,7 @@ module _ {A S R : Type 0} (m : Rules A S R) where
 
   then-nothing : (v : Outcome S R) → andThen v (outcome m [] (v .state)) ≡ v
   unfolding after replies
-  then-nothing v = λ i. record { state = v .state; flash = append-nil (v .flash) i; eeprom = append-nil (v .eeprom) i; lines = append-nil (v .lines) i }
+  then-nothing v = λ i. record { state = v .state; replies = λ c. append-nil (v .replies c) i }
 
   pub reached-start : (rs : List A) (s : S) → m .lost s ≡ false → Reached rs s rs (outcome m [] s)
   unfolding after
@@ -61,11 +56,6 @@ module _ {A S R : Type 0} (m : Rules A S R) where
     reached-end v r = subst (λ (w : Outcome S R). Means m rs s (settled w)) (then-nothing v) (r .whole _ (means-end m (v .state) (r .sure)))
 
   -- where a run of one stamp ends, all that follows is above it
-  all-behind : (P : A → Type 0) (p l : List A) → All P (p ++ l) → All P l
-  unfolding All
-  all-behind P [] l h = h
-  all-behind P (a ∷ p) l h = all-behind P p l (h .1)
-
   pub back-behind : (p l : List A) → NeverBack m (p ++ l) → NeverBack m l
   unfolding NeverBack
   back-behind [] l h = h

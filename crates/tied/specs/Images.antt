@@ -176,16 +176,16 @@ module _ {C B L K D I E F : Type 0} (X : Control C B L K E F) (Y : Effects B K D
     delivered c b i p base g s plain e = deliver-plain b _ _ _ (λ q. not-plain (sym e ∙ q))
 
     -- one run
-    abbrev afterControl : {bs : List B} {ls : List L} → Order B L bs ls → C → C
+    abbrev pub afterControl : {bs : List B} {ls : List L} → Order B L bs ls → C → C
     afterControl o c = Orders.after (X .bus) (X .skel) (X .line) o c
 
-    abbrev skeletons : {bs : List B} {ls : List L} → Order B L bs ls → C → List K
+    abbrev pub skeletons : {bs : List B} {ls : List L} → Order B L bs ls → C → List K
     skeletons o c = Orders.replies (X .bus) (X .skel) (X .line) o c
 
-    abbrev afterBoard : {bs : List B} {ls : List L} → Order B L bs ls → Board C I → Board C I
+    abbrev pub afterBoard : {bs : List B} {ls : List L} → Order B L bs ls → Board C I → Board C I
     afterBoard o s = Orders.after busWith replyWith lineWith o s
 
-    abbrev deliveries : {bs : List B} {ls : List L} → Order B L bs ls → Board C I → List D
+    abbrev pub deliveries : {bs : List B} {ls : List L} → Order B L bs ls → Board C I → List D
     deliveries o s = Orders.replies busWith replyWith lineWith o s
 
     run-control : {bs : List B} {ls : List L} (o : Order B L bs ls) (s : Board C I) → afterBoard o s .control ≡ afterControl o (s .control)
@@ -206,21 +206,29 @@ module _ {C B L K D I E F : Type 0} (X : Control C B L K E F) (Y : Effects B K D
     run-delivers (busFirst {b = b} o) s t h = ap₂ _∷_ (delivered (s .control) b (s .image) (t .pending) (t .base) (h .good) (h .sides) _ refl) (run-delivers o (busWith s b) _ (bus-holds s t b h))
     run-delivers (lineFirst {l = l} o) s t h = run-delivers o (lineWith s l) t (line-holds s t l h)
 
+    -- two orders of the same bus records that agree in the skeletons and in the last control agree in the image
+    pub one-board : {bs cs : List B} {ls ks : List L} (o : Order B L bs ls) (p : Order B L cs ks) (s : Board C I) → X .Good (s .control) → bs ≡ cs →
+        skeletons o (s .control) ≡ skeletons p (s .control) → afterBoard o s .control ≡ afterBoard p s .control → afterBoard o s ≡ afterBoard p s
+    one-board o p s good same-records same-skeletons same-control =
+        let fr = A .frame (s .control) good in
+        let t : Told = record { pending = X .running (s .control); base = s .image; frame = fr .0 } in
+        let h₀ : Holds s t = record { good = good; tracks = fr .1; sides = inl (refl, refl) } in
+        let told : tells t _ (skeletons o (s .control)) ≡ tells t _ (skeletons p (s .control)) = ap₂ (tells t) same-records same-skeletons in
+        let is : afterBoard o s .image ≡ afterBoard p s .image =
+        one-image _ _ _ _ _ (run-holds o s t h₀ .sides)
+        (subst₂ (λ (c : C) (w : Told). Sides (X .running c) (afterBoard p s .image) (w .pending) (w .base)) (sym same-control) (sym told) (run-holds p s t h₀ .sides)) in
+        λ i. record { control = same-control i; image = is i }
+
     -- control decides: to compare the control and the skeletons is to compare all
     pub skeletons-are-enough : (bs : List B) (ls : List L) (s : Board C I) → X .Good (s .control) →
         AnyTwo (X .bus) (X .skel) (X .line) bs ls (s .control) → AnyTwo busWith replyWith lineWith bs ls s
     skeletons-are-enough bs ls s good h o p =
         let fr = A .frame (s .control) good in
         let t : Told = record { pending = X .running (s .control); base = s .image; frame = fr .0 } in
-        let h₀ : Holds s t = record { good = good; tracks = fr .1; sides = inl (refl, refl) } in
-        let ks : skeletons o (s .control) ≡ skeletons p (s .control) = h o p .1 in
-        let cs : afterBoard o s .control ≡ afterBoard p s .control = run-control o s ∙ h o p .0 ∙ sym (run-control p s) in
-        let ho = run-holds o s t h₀ in
-        let hp = run-holds p s t h₀ in
-        let is : afterBoard o s .image ≡ afterBoard p s .image =
-        one-image _ _ _ _ _ (ho .sides)
-        (subst₂ (λ (c : C) (ks : List K). Sides (X .running c) (afterBoard p s .image) (tells t bs ks .pending) (tells t bs ks .base)) (sym cs) (sym ks) (hp .sides)) in
-        (λ i. record { control = cs i; image = is i }, run-delivers o s t h₀ ∙ ap (delivers t bs) ks ∙ sym (run-delivers p s t h₀))
+        let h₀ : Holds s t = record { good = good; tracks = fr .1; sides = inl (refl, refl) } in (
+          one-board o p s good refl (h o p .1) (run-control o s ∙ h o p .0 ∙ sym (run-control p s)),
+          run-delivers o s t h₀ ∙ ap (delivers t bs) (h o p .1) ∙ sym (run-delivers p s t h₀),
+        )
 
     -- and the other way round, where a delivered reply and what was told before it give the skeleton: nothing is refused that should not be
     module _ (read : B → K → D → K) (reads : (b : B) (k h : K) (i : I) → X .Telling k h → read b h (Y .deliver i b k) ≡ k) where
@@ -239,10 +247,16 @@ module _ {C B L K D I E F : Type 0} (X : Control C B L K E F) (Y : Effects B K D
           ∙ ap (λ (k : K). reading (X .next f b k) bs (deliveries o (busWith s b))) (sym e))
       run-reads (lineFirst {l = l} o) s f g t = run-reads o (lineWith s l) f (A .good-line (s .control) l g) (A .tracks-line (s .control) f l g t)
 
+      -- two orders of the same bus records that agree in every delivered reply agree in the skeletons
+      pub one-told : {bs cs : List B} {ls ks : List L} (o : Order B L bs ls) (p : Order B L cs ks) (s : Board C I) → X .Good (s .control) → bs ≡ cs →
+          deliveries o s ≡ deliveries p s → skeletons o (s .control) ≡ skeletons p (s .control)
+      one-told o p s good same-records same-replies =
+          let fr = A .frame (s .control) good in
+          run-reads o s (fr .0) good (fr .1) ∙ ap₂ (reading (fr .0)) same-records same-replies ∙ sym (run-reads p s (fr .0) good (fr .1))
+
       pub all-is-enough : (bs : List B) (ls : List L) (s : Board C I) → X .Good (s .control) →
           AnyTwo busWith replyWith lineWith bs ls s → AnyTwo (X .bus) (X .skel) (X .line) bs ls (s .control)
-      all-is-enough bs ls s good h o p =
-          let fr = A .frame (s .control) good in (
-            sym (run-control o s) ∙ ap (λ (x : Board C I). x .control) (h o p .0) ∙ run-control p s,
-            run-reads o s (fr .0) good (fr .1) ∙ ap (reading (fr .0) bs) (h o p .1) ∙ sym (run-reads p s (fr .0) good (fr .1)),
-          )
+      all-is-enough bs ls s good h o p = (
+        sym (run-control o s) ∙ ap (λ (x : Board C I). x .control) (h o p .0) ∙ run-control p s,
+        one-told o p s good refl (h o p .1),
+      )

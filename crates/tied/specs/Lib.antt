@@ -2,5 +2,3 @@
 pub mod Orders
 pub mod Control
 pub mod Images
-pub mod Joint
-pub mod OneBoard

@@ -1,6 +1,6 @@
 -- The head's controls decide.
-pub mod Seen
 pub mod Sides
 pub mod Effects
+pub mod Chip
 pub mod Whole
 pub mod Verdict

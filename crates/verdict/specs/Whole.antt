@@ -1,45 +1,34 @@
--- The head as each chip sees it: the chip, the two lines and the chip's image. What the orders of a stamp give on the head is what they give on each chip's part, and that is decided by its control.
-use mathlib.Core.Path.{_≡_, refl, sym, ap, _∙_}
-use mathlib.Core.List.{List}
+-- The head as each chip sees it: the chip, the two lines and the chip's image.
+use mathlib.Core.Path.{_≡_, refl, sym}
+use mathlib.Core.Bool.{true}
 use Prim.Native.Nat.{ℕ}
-use Rattle.tied.specs.Orders.{AnyTwo}
-use Rattle.tied.specs.Control.{Kind, starts, ends, fetches, plain}
+use Rattle.law.specs.Choice.{true-not-false}
 use Rattle.tied.specs.Images as images
-use Rattle.tied.specs.Images.{busWith, replyWith, lineWith, skeletons-are-enough, all-is-enough}
-use Rattle.meaning.specs.Lists.{All}
-use Rattle.meaning.specs.Meaning.{Channel, F, E, L}
+use Rattle.tied.specs.Images.{busWith, replyWith, lineWith}
+use Rattle.meaning.specs.Meaning.{F, E, L, same}
+use Rattle.meaning.specs.Chips.{heard, Sees}
 use Rattle.record.specs.declared.Board.{Board}
 use Rattle.record.specs.declared.Record.{Record}
 use Rattle.record.specs.declared.Event.{Event}
 use Rattle.record.specs.declared.Event.the-variants as event
-use Rattle.record.specs.declared.Reply.{Reply}
-use Rattle.record.specs.declared.Reply.the-variants as reply
-use Rattle.record.specs.declared.Skeleton.{Skeleton}
-use Rattle.record.specs.declared.Skeleton.the-variants.{Silent, Given, Fetch, Ack, NoAck, Starts, Ends, NoCycle}
-use Rattle.record.specs.Told.{skeletonKind, Telling}
-use Rattle.board.specs.declared.Controls.{Controls}
 use Rattle.board.specs.Play.{movedOf, eventMoved}
 use Rattle.flash.specs.Side as flash-side
-use Rattle.flash.specs.Good as flash-good
 use Rattle.eeprom.specs.Side as eeprom-side
-use Rattle.eeprom.specs.Good as eeprom-good
 use Rattle.image.specs.Image.{Image}
-use Rattle.orders.specs.Stamp.{played}
-use Rattle.orders.specs.Verdicts.{says}
 use Rattle.machine.specs.Effects.{flashStroke, eepromStroke, flashAfter, eepromAfter}
 use Rattle.machine.specs.Replies.{delivered}
-use Rattle.machine.specs.Machine.{Machine, machineOf, imageFor, playOn, saysOn, channelOf}
-use Rattle.verdict.specs.Seen.{Seen, whole-part, part-whole}
-use Rattle.verdict.specs.Sides.{Is, clash, flashOver, eepromOver, flash-over-lawful, eeprom-over-lawful, flashSide, eepromSide, controls-flash, flash-controls, controls-eeprom, eeprom-controls}
+use Rattle.machine.specs.Machine.{Machine, machineOf, imageFor, playOn, saysOn, head, channelOf}
+use Rattle.verdict.specs.Sides.{flashOver, eepromOver, flash-over-lawful, eeprom-over-lawful, flashSide, eepromSide, flashRest, eepromRest, flash-seen, eeprom-seen, flash-beside, eeprom-beside}
+use Rattle.verdict.specs.Chip.{Chip, see, deliver-plain, reads}
 use Rattle.verdict.specs.Effects.{flashEffects, eepromEffects, flash-bus, flash-line, eeprom-bus, eeprom-line}
 
 abbrev pub seeFlash : Machine → images.Board flash-side.Side Image
-seeFlash m = record { control = flashSide (m .controls); image = m .flash }
+seeFlash = see flashSide (λ m. m .flash)
 
 abbrev pub seeEeprom : Machine → images.Board eeprom-side.Side Image
-seeEeprom m = record { control = eepromSide (m .controls); image = m .eeprom }
+seeEeprom = see eepromSide (λ m. m .eeprom)
 
-seen-all : (m n : Machine) → seeFlash m ≡ seeFlash n → seeEeprom m ≡ seeEeprom n → m ≡ n
+pub seen-all : (m n : Machine) → seeFlash m ≡ seeFlash n → seeEeprom m ≡ seeEeprom n → m ≡ n
 seen-all m n f e i = record {
   controls = record { flash = f i .control .chip; eeprom = e i .control .chip; lines = f i .control .lines };
   flash = f i .image;
@@ -47,155 +36,63 @@ seen-all m n f e i = record {
 }
 
 module _ (b : Board) where
-  -- the head after an event, and what it says
+  -- the head after an event
   abbrev after : Event → Machine → Machine
   after v m =
       machineOf (eventMoved b (m .controls) v .controls)
       (flashAfter (flashStroke (m .controls .lines) v (eventMoved b (m .controls) v .reply)) (b .sector) (m .controls .flash) (m .flash))
       (eepromAfter (eepromStroke (m .controls .lines) v (eventMoved b (m .controls) v .reply)) (m .controls .eeprom) (m .eeprom))
 
-  -- ---- the flash's part
-  flash-own : (v : Event) (stamp : ℕ) (m : Machine) → channelOf v ≡ F → seeFlash (after v m) ≡ busWith (flashOver b) (flashEffects b) (seeFlash m) (record { stamp = stamp; event = v })
-  flash-own (event.Flash e) t m i =
+  -- ---- the flash's part: a row for each event, what it sees and what it says
+  flash-row : (v : Event) (stamp : ℕ) (m : Machine) →
+      (seeFlash (after v m) ≡ heard (busWith (flashOver b) (flashEffects b)) (lineWith (flashOver b) (flashEffects b)) (same F (channelOf v)) (same L (channelOf v)) (seeFlash m) (record { stamp = stamp; event = v }))
+      × (same F (channelOf v) ≡ true →
+      delivered (imageFor v (m .flash) (m .eeprom)) (eventMoved b (m .controls) v .reply) ≡ replyWith (flashOver b) (flashEffects b) (seeFlash m) (record { stamp = stamp; event = v }))
+  unfolding heard flashAfter
+  flash-row (event.Flash e) t m =
       let h = flash-bus b (flash-side.sideSays (b .sector) (flashSide (m .controls)) e) (m .controls .flash) (m .flash) in
-      λ j. record { control = flash-side.sideBus (b .sector) (flashSide (m .controls)) e; image = h j }
-  flash-own (event.Eeprom e) t m i = clash E F refl i
-  flash-own (event.Line e) t m i = clash L F refl i
-
-  flash-says : (v : Event) (stamp : ℕ) (m : Machine) → channelOf v ≡ F →
-      delivered (imageFor v (m .flash) (m .eeprom)) (eventMoved b (m .controls) v .reply) ≡ replyWith (flashOver b) (flashEffects b) (seeFlash m) (record { stamp = stamp; event = v })
-  flash-says (event.Flash e) t m i = refl
-  flash-says (event.Eeprom e) t m i = clash E F refl i
-  flash-says (event.Line e) t m i = clash L F refl i
-
-  flash-other : (v : Event) (m : Machine) → channelOf v ≡ F → seeEeprom (after v m) ≡ seeEeprom m
-  unfolding eepromAfter
-  flash-other (event.Flash e) m i = refl
-  flash-other (event.Eeprom e) m i = clash E F refl i
-  flash-other (event.Line e) m i = clash L F refl i
-
-  flash-lines : (v : Event) (stamp : ℕ) (m : Machine) → channelOf v ≡ L → seeFlash (after v m) ≡ lineWith (flashOver b) (flashEffects b) (seeFlash m) (record { stamp = stamp; event = v })
-  flash-lines (event.Flash e) t m i = clash F L refl i
-  flash-lines (event.Eeprom e) t m i = clash E L refl i
-  flash-lines (event.Line e) t m i =
+      ((λ j. record { control = flash-side.sideBus (b .sector) (flashSide (m .controls)) e; image = h j }), λ i. refl)
+  flash-row (event.Eeprom e) t m = (refl, λ i. absurd (true-not-false (sym i)))
+  flash-row (event.Line e) t m =
       let h = flash-line b e (m .controls .flash) (m .controls .lines) (m .flash) in
-      λ j. record { control = flash-side.sideLine (flashSide (m .controls)) e; image = h j }
+      ((λ j. record { control = flash-side.sideLine (flashSide (m .controls)) e; image = h j }), λ i. absurd (true-not-false (sym i)))
+
+  flash-whole : Sees (head b) F seeFlash (busWith (flashOver b) (flashEffects b)) (replyWith (flashOver b) (flashEffects b)) (lineWith (flashOver b) (flashEffects b))
+  unfolding playOn saysOn movedOf
+  flash-whole = record { apart = refl; plays = λ m r. flash-row (r .event) (r .stamp) m .0; says = λ m r. flash-row (r .event) (r .stamp) m .1 }
 
   -- ---- the EEPROM's part
-  eeprom-own : (v : Event) (stamp : ℕ) (m : Machine) → channelOf v ≡ E → seeEeprom (after v m) ≡ busWith (eepromOver b) eepromEffects (seeEeprom m) (record { stamp = stamp; event = v })
-  eeprom-own (event.Flash e) t m i = clash F E refl i
-  eeprom-own (event.Eeprom e) t m i =
+  eeprom-row : (v : Event) (stamp : ℕ) (m : Machine) →
+      (seeEeprom (after v m) ≡ heard (busWith (eepromOver b) eepromEffects) (lineWith (eepromOver b) eepromEffects) (same E (channelOf v)) (same L (channelOf v)) (seeEeprom m) (record { stamp = stamp; event = v }))
+      × (same E (channelOf v) ≡ true →
+      delivered (imageFor v (m .flash) (m .eeprom)) (eventMoved b (m .controls) v .reply) ≡ replyWith (eepromOver b) eepromEffects (seeEeprom m) (record { stamp = stamp; event = v }))
+  unfolding heard eepromAfter
+  eeprom-row (event.Flash e) t m = (refl, λ i. absurd (true-not-false (sym i)))
+  eeprom-row (event.Eeprom e) t m =
       let h = eeprom-bus b (eeprom-side.sideSays (b .address) (eepromSide (m .controls)) e) (m .controls .eeprom) (m .eeprom) in
-      λ j. record { control = eeprom-side.sideBus (b .address) (eepromSide (m .controls)) e; image = h j }
-  eeprom-own (event.Line e) t m i = clash L E refl i
-
-  eeprom-says : (v : Event) (stamp : ℕ) (m : Machine) → channelOf v ≡ E →
-      delivered (imageFor v (m .flash) (m .eeprom)) (eventMoved b (m .controls) v .reply) ≡ replyWith (eepromOver b) eepromEffects (seeEeprom m) (record { stamp = stamp; event = v })
-  eeprom-says (event.Flash e) t m i = clash F E refl i
-  eeprom-says (event.Eeprom e) t m i = refl
-  eeprom-says (event.Line e) t m i = clash L E refl i
-
-  eeprom-other : (v : Event) (m : Machine) → channelOf v ≡ E → seeFlash (after v m) ≡ seeFlash m
-  unfolding flashAfter
-  eeprom-other (event.Flash e) m i = clash F E refl i
-  eeprom-other (event.Eeprom e) m i = refl
-  eeprom-other (event.Line e) m i = clash L E refl i
-
-  eeprom-lines : (v : Event) (stamp : ℕ) (m : Machine) → channelOf v ≡ L → seeEeprom (after v m) ≡ lineWith (eepromOver b) eepromEffects (seeEeprom m) (record { stamp = stamp; event = v })
-  eeprom-lines (event.Flash e) t m i = clash F L refl i
-  eeprom-lines (event.Eeprom e) t m i = clash E L refl i
-  eeprom-lines (event.Line e) t m i =
+      ((λ j. record { control = eeprom-side.sideBus (b .address) (eepromSide (m .controls)) e; image = h j }), λ i. refl)
+  eeprom-row (event.Line e) t m =
       let h = eeprom-line b e (m .controls .eeprom) (m .controls .lines) (m .eeprom) in
-      λ j. record { control = eeprom-side.sideLine (eepromSide (m .controls)) e; image = h j }
+      ((λ j. record { control = eeprom-side.sideLine (eepromSide (m .controls)) e; image = h j }), λ i. absurd (true-not-false (sym i)))
 
-  pub flash-seen : Seen (playOn b) (saysOn b) (playOn b) (busWith (flashOver b) (flashEffects b)) (replyWith (flashOver b) (flashEffects b)) (lineWith (flashOver b) (flashEffects b)) (Is F) (Is L) seeFlash seeEeprom
+  eeprom-whole : Sees (head b) E seeEeprom (busWith (eepromOver b) eepromEffects) (replyWith (eepromOver b) eepromEffects) (lineWith (eepromOver b) eepromEffects)
   unfolding playOn saysOn movedOf
-  flash-seen = record {
-    own = λ m r i. flash-own (r .event) (r .stamp) m i;
-    says = λ m r i. flash-says (r .event) (r .stamp) m i;
-    other = λ m r i. flash-other (r .event) m i;
-    lines = λ m r i. flash-lines (r .event) (r .stamp) m i;
-    lines-other = λ m n r i e.
-        eeprom-lines (r .event) (r .stamp) m i ∙ ap (λ (x : images.Board eeprom-side.Side Image). lineWith (eepromOver b) eepromEffects x r) e ∙ sym (eeprom-lines (r .event) (r .stamp) n i);
-    all = seen-all;
-  }
+  eeprom-whole = record { apart = refl; plays = λ m r. eeprom-row (r .event) (r .stamp) m .0; says = λ m r. eeprom-row (r .event) (r .stamp) m .1 }
 
-  pub eeprom-seen : Seen (playOn b) (saysOn b) (playOn b) (busWith (eepromOver b) eepromEffects) (replyWith (eepromOver b) eepromEffects) (lineWith (eepromOver b) eepromEffects) (Is E) (Is L) seeEeprom seeFlash
-  unfolding playOn saysOn movedOf
-  eeprom-seen = record {
-    own = λ m r i. eeprom-own (r .event) (r .stamp) m i;
-    says = λ m r i. eeprom-says (r .event) (r .stamp) m i;
-    other = λ m r i. eeprom-other (r .event) m i;
-    lines = λ m r i. eeprom-lines (r .event) (r .stamp) m i;
-    lines-other = λ m n r i e.
-        flash-lines (r .event) (r .stamp) m i ∙ ap (λ (x : images.Board flash-side.Side Image). lineWith (flashOver b) (flashEffects b) x r) e ∙ sym (flash-lines (r .event) (r .stamp) n i);
-    all = λ m n e f. seen-all m n f e;
-  }
-
-  -- only a fetched byte depends on the image
-  deliver-plain : (r : Record) (k : Skeleton) (i j : Image) → (skeletonKind k ≡ fetches → ⊥) → delivered i k ≡ delivered j k
+  -- ---- the lines say nothing
+  quiet-by : (v : Event) (m n : Machine) → same L (channelOf v) ≡ true → delivered (imageFor v (m .flash) (m .eeprom)) (eventMoved b (m .controls) v .reply) ≡ delivered (imageFor v (n .flash) (n .eeprom)) (eventMoved b (n .controls) v .reply)
   unfolding delivered
-  deliver-plain r Silent i j n = refl
-  deliver-plain r (Given x) i j n = refl
-  deliver-plain r (Fetch p) i j n = absurd (n refl)
-  deliver-plain r Ack i j n = refl
-  deliver-plain r NoAck i j n = refl
-  deliver-plain r Starts i j n = refl
-  deliver-plain r Ends i j n = refl
-  deliver-plain r NoCycle i j n = refl
+  quiet-by (event.Flash e) m n i = absurd (true-not-false (sym i))
+  quiet-by (event.Eeprom e) m n i = absurd (true-not-false (sym i))
+  quiet-by (event.Line e) m n i = refl
 
-  -- a delivered byte was given, or fetched from the place that was told
-  abbrev readByte : Skeleton → ℕ → Skeleton
-  readByte Silent v = Given v
-  readByte (Given x) v = Given v
-  readByte (Fetch p) v = Fetch p
-  readByte Ack v = Given v
-  readByte NoAck v = Given v
-  readByte Starts v = Given v
-  readByte Ends v = Given v
-  readByte NoCycle v = Given v
+  pub quiet : (m n : Machine) (r : Record) → same L (channelOf (r .event)) ≡ true → saysOn b m r ≡ saysOn b n r
+  unfolding saysOn movedOf
+  quiet m n r i = quiet-by (r .event) m n i
 
-  abbrev read : Record → Skeleton → Reply → Skeleton
-  read r h reply.NotPlayed = Silent
-  read r h reply.Silent = Silent
-  read r h (reply.Byte v m) = readByte h v
-  read r h reply.Ack = Ack
-  read r h reply.NoAck = NoAck
-  read r h reply.Starts = Starts
-  read r h reply.Ends = Ends
-  read r h reply.NoCycle = NoCycle
+  -- ---- each chip decides by its control
+  pub flash-chip : Chip b F (flashOver b) (flashEffects b) flashSide (λ m. m .flash) (flashRest b)
+  flash-chip = record { lawful = flash-over-lawful b; plain = deliver-plain; reads = reads; controls = flash-seen b; beside = flash-beside b; whole = flash-whole }
 
-  reads : (r : Record) (k h : Skeleton) (i : Image) → Telling k h → read r h (delivered i k) ≡ k
-  unfolding delivered Telling
-  reads r Silent h i t = refl
-  reads r (Given x) h i t = rw t refl
-  reads r (Fetch p) h i t = rw t refl
-  reads r Ack h i t = refl
-  reads r NoAck h i t = refl
-  reads r Starts h i t = refl
-  reads r Ends h i t = refl
-  reads r NoCycle h i t = refl
-
-  -- on the controls alone as on the head
-  module _ (bs ls : List Record) (m : Machine) (q : All (Is L) ls) where
-    module _ (p : All (Is F) bs) (good : flash-good.Good (flashSide (m .controls))) where
-      pub controls-head-flash : AnyTwo (played b) (says b) (played b) bs ls (m .controls) → AnyTwo (playOn b) (saysOn b) (playOn b) bs ls m
-      controls-head-flash h =
-          part-whole _ _ _ _ _ _ _ _ _ _ flash-seen bs ls m p q
-          (skeletons-are-enough (flashOver b) (flashEffects b) (flash-over-lawful b) deliver-plain bs ls (seeFlash m) good (controls-flash b bs ls (m .controls) q p h))
-
-      pub head-controls-flash : AnyTwo (playOn b) (saysOn b) (playOn b) bs ls m → AnyTwo (played b) (says b) (played b) bs ls (m .controls)
-      head-controls-flash h =
-          flash-controls b bs ls (m .controls) q p
-          (all-is-enough (flashOver b) (flashEffects b) (flash-over-lawful b) deliver-plain read reads bs ls (seeFlash m) good (whole-part _ _ _ _ _ _ _ _ _ _ flash-seen bs ls m p q h))
-
-    module _ (p : All (Is E) bs) (good : eeprom-good.Good (eepromSide (m .controls))) where
-      pub controls-head-eeprom : AnyTwo (played b) (says b) (played b) bs ls (m .controls) → AnyTwo (playOn b) (saysOn b) (playOn b) bs ls m
-      controls-head-eeprom h =
-          part-whole _ _ _ _ _ _ _ _ _ _ eeprom-seen bs ls m p q
-          (skeletons-are-enough (eepromOver b) eepromEffects (eeprom-over-lawful b) deliver-plain bs ls (seeEeprom m) good (controls-eeprom b bs ls (m .controls) q p h))
-
-      pub head-controls-eeprom : AnyTwo (playOn b) (saysOn b) (playOn b) bs ls m → AnyTwo (played b) (says b) (played b) bs ls (m .controls)
-      head-controls-eeprom h =
-          eeprom-controls b bs ls (m .controls) q p
-          (all-is-enough (eepromOver b) eepromEffects (eeprom-over-lawful b) deliver-plain read reads bs ls (seeEeprom m) good (whole-part _ _ _ _ _ _ _ _ _ _ eeprom-seen bs ls m p q h))
+  pub eeprom-chip : Chip b E (eepromOver b) eepromEffects eepromSide (λ m. m .eeprom) (eepromRest b)
+  eeprom-chip = record { lawful = eeprom-over-lawful b; plain = deliver-plain; reads = reads; controls = eeprom-seen b; beside = eeprom-beside b; whole = eeprom-whole }

@@ -7,10 +7,10 @@ use Prim.Native.Nat.{ℕ, _+_, _-_, _*_, _≤_, _<_, min}
 use native.Mathlib.Omega.{arith}
 use lib.ListN.{length, take, drop, replicate, length-append, length-replicate}
 use Rattle.law.specs.Choice.{true-not-false}
-use Rattle.meaning.specs.Lists.{keep, filter, All, all-map, all-append, front-in}
-use Rattle.meaning.specs.Meaning.{Channel, F, E, L, same, Reason, crowded, differ, lost, Outcome, of, NeverBack, Allowed, Alike, Crowded, after, outcome, before, Means}
+use Rattle.meaning.specs.Lists.{All, all-map, all-append, all-behind, front-in}
+use Rattle.meaning.specs.Meaning.{most, Reason, crowded, differ, lost, Outcome, of, NeverBack, Allowed, Alike, Crowded, after, outcome, before, Means}
 use Rattle.meaning.specs.Meaning as meaning
-use Rattle.meaning.specs.Groups.{andThen}
+use Rattle.meaning.specs.Sums.{sum, sum-most, length-apart}
 use Rattle.meaning.specs.Steps.{outcome-append, before-here, means-crowded, means-differ, means-lost}
 use Rattle.meaning.specs.Walk.{Reached, reached-start, reached-stamp, reached-stop, reached-end, run-above, back-behind}
 use Rattle.meaning.specs.Listing.{said, shownAt, laid-said}
@@ -31,8 +31,8 @@ use Rattle.orders.specs.declared.Verdict.the-variants as verdict
 use Rattle.orders.specs.Verdicts.{Few, TooMany, AllAgree, lastOf, Judged}
 use Rattle.machine.specs.Machine.{Machine, machineAtStart, head, channelOf}
 use Rattle.text.specs.Texts.{spelledAll, AllOk, Readable, textLimit}
-use Rattle.text.proofs.Theorems.{first-place, few-records, at-end}
-use Rattle.verdict.specs.Verdict.{Good, good-start, good-after, HoldsMost, Holds, holds-all, holds-few, too-many, not-crowded, agree-alike, alike-agree, as-written, lost-as}
+use Rattle.text.proofs.Theorems.{first-place, at-end}
+use Rattle.verdict.specs.Verdict.{Good, good-start, good-after, HoldsMost, Holds, holds-all, few-each, too-many, not-crowded, agree-alike, alike-agree, as-written, lost-as}
 use Rattle.buffers.specs.Buffers.{repliesLength, resultBytes}
 use Rattle.stamps.specs.declared.Judgement.{Judgement}
 use Rattle.stamps.specs.Gathering.{Over}
@@ -42,21 +42,6 @@ use Rattle.call.specs.Replay.{Ended, endedAs, replyLines, countTwos, padded, sh
 use Rattle.call.specs.Run.{endedWith, Runs}
 use Rattle.call.proofs.Back.{never-back}
 use Rattle.call.proofs.Playing.{run-machine, run-append, run-count, run-replies}
-
--- ---- the records of a stamp are those of its channels
-one-more : (c : Channel) (r : Record) (f e l : List Record) (n : ℕ) → n ≡ length f + (length e + length l) →
-    n + 1 ≡ length (keep (same F c) r f) + (length (keep (same E c) r e) + length (keep (same L c) r l))
-unfolding keep
-one-more F r f e l n h = omega arith
-one-more E r f e l n h = omega arith
-one-more L r f e l n h = omega arith
-
-channel-count : (b : Board) (p : List Record) → length p ≡ length (of (head b) F p) + (length (of (head b) E p) + length (of (head b) L p))
-unfolding filter
-channel-count b [] = refl
-channel-count b (r ∷ p) =
-    let k : length (r ∷ p) ≡ length p + 1 = omega arith in
-    k ∙ one-more (channelOf (r .event)) r _ _ _ (length p) (channel-count b p)
 
 -- ---- what is shown of records played as they are written
 module _ (b : Board) (f e : Image) where
@@ -221,10 +206,9 @@ module _ (text : List ℕ) (b : Board) (rs : List Record) (f e : Image) (readabl
       -- ---- the stamp passes
       short : Few (x .held) → length p ≤ 18
       short k =
-          let u = holds-few _ _ _ _ (x .holds .flash) (k .flash) in
-          let v = holds-few _ _ _ _ (x .holds .eeprom) (k .eeprom) in
-          let w = holds-few _ _ _ _ (x .holds .lines) (k .lines) in
-          omega (arith, channel-count b p, u, v, w)
+          let n = length-apart (λ (r : Record). channelOf (r .event)) p in
+          let l : sum (λ c. length (of (head b) c p)) ≤ 18 = sum-most (λ c. length (of (head b) c p)) most (few-each b (x .held) p (x .rest) (j .stamp) (x .holds) (x .same) higher k) in
+          omega (arith, n, l)
 
       written-is : Few (x .held) → take (min (j .count) 18) (j .records) ≡ p
       written-is k =
@@ -233,15 +217,10 @@ module _ (text : List ℕ) (b : Board) (rs : List Record) (f e : Image) (readabl
           let n : min (j .count) 18 ≡ j .count = omega (arith, l, c) in
           ap (λ (i : ℕ). take i (j .records)) n ∙ holds-all 18 (j .count) (j .records) p (x .written) (omega (arith, l, c))
 
-      behind : (P : Record → Type 0) (l k : List Record) → All P (l ++ k) → All P k
-      unfolding All
-      behind P [] k h = h
-      behind P (s ∷ l) k h = behind P l k (h .1)
-
       apart-next : All (λ (s : Record). All (λ (u : Record). s .stamp < u .stamp) (x .rest)) (r .done ++ p)
       apart-next =
           all-append _ (r .done) p
-          (all-map _ _ (λ s k. behind _ p (x .rest) (subst (All (λ (u : Record). s .stamp < u .stamp)) (x .whole) k)) (r .done) (r .apart))
+          (all-map _ _ (λ s k. all-behind _ p (x .rest) (subst (All (λ (u : Record). s .stamp < u .stamp)) (x .whole) k)) (r .done) (r .apart))
           (all-map _ _ (λ s k. subst (λ (t : ℕ). All (λ (u : Record). t < u .stamp) (x .rest)) (sym k) higher) p (x .same))
 
       passes-by : (v : Verdict) → Judged b (x .held) (m .controls) v → goesOn v ≡ true → (d′ : Desk) → d′ ≡ runDesk b (take (min (j .count) 18) (j .records)) d → Reaching (j .next) d′
