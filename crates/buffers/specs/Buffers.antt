@@ -7,19 +7,20 @@ use lib.Dec.{eqb, ltb}
 use lib.ListN.{length}
 use lib.Seq.{sets}
 use Rattle.law.specs.Choice.{pick}
-use Rattle.image.specs.Image.{Image, imageOf, fits}
+use Rattle.image.specs.declared.view.Chip.{Chip}
+use Rattle.image.specs.Image.{Image, spans}
+use Rattle.image.specs.Images.{Images, imagesOf, every, keptBytes}
 
--- what a replay changes: both images with their masks, the replies, the result
+-- what a replay changes: the images with their masks, the replies, the result
 pub record Buffers : Type 0 where
-  pub flash : Image
-  pub eeprom : Image
+  pub images : Images
   pub replies : List ℕ
   pub result : List ℕ
 
 -- flash values, flash masks, EEPROM values, EEPROM masks, replies, result
 abbrev pub buffersOf : List ℕ → List ℕ → List ℕ → List ℕ → List ℕ → List ℕ → Buffers
 buffersOf fv fm ev em replies result =
-    record { flash = imageOf fv fm; eeprom = imageOf ev em; replies = replies; result = result }
+    record { images = imagesOf fv fm ev em; replies = replies; result = result }
 
 -- refusal 1: 'replies are not 40,000, result not 12'
 abbrev pub repliesLength : ℕ
@@ -34,14 +35,20 @@ clear [] ms = true
 clear (v ∷ vs) [] = true
 clear (v ∷ vs) (m ∷ ms) = pick (eqb (bitAnd v m) 0) (clear vs ms) false
 
+-- an image is as long as its chip's has to be, and no bit of it is set in both
+abbrev pub isKept : Chip → Image → Bool
+isKept chip i = spans (keptBytes chip) i
+
+abbrev pub isClear : Chip → Image → Bool
+isClear chip i = clear (i .values) (i .masks)
+
 -- none of the grounds of refusal 1 holds: every length is right, and in each image no bit is set in both
 unfoldable pub fit : Buffers → Bool
 fit x =
-    pick (fits (x .flash))
-    (pick (fits (x .eeprom))
+    pick (every isKept (x .images))
     (pick (eqb (length (x .replies)) repliesLength)
     (pick (eqb (length (x .result)) resultLength)
-    (pick (clear (x .flash .values) (x .flash .masks)) (clear (x .eeprom .values) (x .eeprom .masks)) false) false) false) false) false
+    (every isClear (x .images)) false) false) false
 
 -- the result's numbers: 'four bytes each, low byte first'
 abbrev pub word : ℕ → List ℕ

@@ -6,13 +6,12 @@ ghost use Prim.Native.Nat.{_+_, _≤_};
 ghost use lib.ListN.{length, replicate};
 ghost use lib.Seq.{sets};
 ghost use Rattle.record.specs.Replies.{replyBytes};
-ghost use Rattle.image.specs.Image.{imageOf, fits};
+ghost use Rattle.image.specs.Image.{imageOf, spans};
+ghost use Rattle.image.specs.Images.{keptBytes};
 ghost use Rattle.buffers.specs.Buffers.{buffersOf, clear, fit, word, resultAfter, repliesWith};
+use image::view::Chip;
 use record::Match;
 use record::Reply;
-
-// How many bytes are kept of a chip.
-const KEPT: usize = 32768;
 
 // How many bytes the replies take, and the result.
 const REPLIES: usize = 40000;
@@ -33,10 +32,10 @@ pub fn fits_all(
 ) -> bool
     ensures { λ r. ⌜ r ≡ fit (buffersOf (now (flash .entry)) (now («flash_mask» .entry)) (now (eeprom .entry)) (now («eeprom_mask» .entry)) (now (replies .entry)) (now (result .entry))) ⌝ }
 {
-    if !image_fits(flash, flash_mask) {
+    if !image_fits(Chip::Flash, flash, flash_mask) {
         return false;
     }
-    if !image_fits(eeprom, eeprom_mask) {
+    if !image_fits(Chip::Eeprom, eeprom, eeprom_mask) {
         return false;
     }
     if replies.len() != REPLIES {
@@ -51,14 +50,15 @@ pub fn fits_all(
     is_clear(eeprom, eeprom_mask)
 }
 
-// As many values and masks as bytes are kept.
-fn image_fits(values: &[u8], masks: &[u8]) -> bool
-    ensures { λ r. ⌜ r ≡ fits (imageOf (now (values .entry)) (now (masks .entry))) ⌝ }
+// As many values and masks as bytes are kept of the chip.
+fn image_fits(chip: Chip, values: &[u8], masks: &[u8]) -> bool
+    ensures { λ r. ⌜ r ≡ spans (keptBytes chip) (imageOf (now (values .entry)) (now (masks .entry))) ⌝ }
 {
-    if values.len() != KEPT {
+    let kept = image::view::kept_bytes(chip);
+    if values.len() != kept {
         return false;
     }
-    masks.len() == KEPT
+    masks.len() == kept
 }
 
 // No bit is set in both.

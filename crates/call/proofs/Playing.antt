@@ -14,7 +14,7 @@ use Rattle.record.specs.declared.Match.the-variants.{Nothing, Agrees, Disagrees
 use Rattle.record.specs.Replies.{replyBytes}
 use Rattle.law.specs.Rest.{rest-cons, rest-nil}
 use Rattle.board.specs.declared.Controls.{Controls}
-use Rattle.image.specs.Image.{Image}
+use Rattle.image.specs.Images.{Images}
 use Rattle.machine.specs.Replies.{compared}
 use Rattle.machine.specs.Machine.{Machine, machineOf, head, playOn, saysOn}
 use Rattle.buffers.specs.Buffers.{repliesLength, repliesWith}
@@ -29,14 +29,14 @@ two-most Agrees = omega arith
 two-most Disagrees = omega arith
 
 -- what the calls of `play_one` make together
-pub played-one : (b : Board) (c c′ : Controls) (f e f′ e′ : Image) (old new : List ℕ) (number count t : ℕ) (r : Record) (y : Reply) (m : Match) →
-    machineOf c′ f′ e′ ≡ playOn b (machineOf c f e) r → y ≡ saysOn b (machineOf c f e) r → m ≡ compared (r .event) y → new ≡ repliesWith number (replyBytes y m) old → t ≡ twos m →
-    deskOf c′ f′ e′ new (number + 1) (count + t) ≡ stepDesk b (deskOf c f e old number count) r
+pub played-one : (b : Board) (c c′ : Controls) (x x′ : Images) (old new : List ℕ) (number count t : ℕ) (r : Record) (y : Reply) (m : Match) →
+    machineOf c′ x′ ≡ playOn b (machineOf c x) r → y ≡ saysOn b (machineOf c x) r → m ≡ compared (r .event) y → new ≡ repliesWith number (replyBytes y m) old → t ≡ twos m →
+    deskOf c′ x′ new (number + 1) (count + t) ≡ stepDesk b (deskOf c x old number count) r
 unfolding stepDesk
-played-one b c c′ f e f′ e′ old new number count t r y m hm hy hc hn ht =
-    let k : m ≡ compared (r .event) (saysOn b (machineOf c f e) r) = hc ∙ ap (compared (r .event)) hy in
-    let g = hn ∙ ap₂ (λ (z : Reply) (x : Match). repliesWith number (replyBytes z x) old) hy k in
-    let n = ap (λ (x : ℕ). count + x) (ht ∙ ap twos k) in
+played-one b c c′ x x′ old new number count t r y m hm hy hc hn ht =
+    let k : m ≡ compared (r .event) (saysOn b (machineOf c x) r) = hc ∙ ap (compared (r .event)) hy in
+    let g = hn ∙ ap₂ (λ (z : Reply) (k : Match). repliesWith number (replyBytes z k) old) hy k in
+    let n = ap (λ (k : ℕ). count + k) (ht ∙ ap twos k) in
     λ i. record { machine = hm i; replies = g i; number = number + 1; count = n i }
 
 module _ (b : Board) where

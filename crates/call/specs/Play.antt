@@ -8,7 +8,7 @@ use Rattle.record.specs.declared.Match.{Match}
 use Rattle.record.specs.declared.Match.the-variants.{Nothing, Agrees, Disagrees}
 use Rattle.record.specs.Replies.{replyBytes}
 use Rattle.board.specs.declared.Controls.{Controls}
-use Rattle.image.specs.Image.{Image}
+use Rattle.image.specs.Images.{Images}
 use Rattle.machine.specs.Replies.{compared}
 use Rattle.machine.specs.Machine.{Machine, machineOf, playOn, saysOn}
 use Rattle.buffers.specs.Buffers.{repliesWith}
@@ -29,8 +29,8 @@ pub record Desk : Type 0 where
   pub number : ℕ
   pub count : ℕ
 
-abbrev pub deskOf : Controls → Image → Image → List ℕ → ℕ → ℕ → Desk
-deskOf c f e replies number count = record { machine = machineOf c f e; replies = replies; number = number; count = count }
+abbrev pub deskOf : Controls → Images → List ℕ → ℕ → ℕ → Desk
+deskOf c x replies number count = record { machine = machineOf c x; replies = replies; number = number; count = count }
 
 unfoldable pub stepDesk : Board → Desk → Record → Desk
 stepDesk b d r = record {

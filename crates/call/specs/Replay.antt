@@ -38,7 +38,7 @@ endedAs n x = record { answer = n; buffers = x }
 unfoldable pub refusedAs : Answer → ℕ → Buffers → Ended
 refusedAs a line x =
     endedAs (answerNumber a)
-    (record { flash = x .flash; eeprom = x .eeprom; replies = x .replies; result = resultAfter (answerNumber a) line 0 (x .result) })
+    (record { images = x .images; replies = x .replies; result = resultAfter (answerNumber a) line 0 (x .result) })
 
 -- the replies to the records, four bytes each, in the order of the lines
 unfoldable pub replyLines : List Record → List Reply → List ℕ
@@ -61,8 +61,7 @@ unfoldable pub shownAs : Board → ℕ → ℕ → List Record → Outcome Machi
 shownAs b n t rs v =
     endedAs n
     (record {
-      flash = v .state .flash;
-      eeprom = v .state .eeprom;
+      images = v .state .images;
       replies = padded (replyLines rs (shownAt (head b) rs v));
       result = resultBytes n t (countTwos rs (shownAt (head b) rs v));
     })
@@ -79,7 +78,7 @@ shown b rs (meaning.stopped n t v) = shownAs b (answerNumber (reasonAnswer n)) t
 
 -- the head at the start, with the images as they are lent
 abbrev pub startWith : Board → Buffers → Machine
-startWith b x = machineAtStart b (x .flash) (x .eeprom)
+startWith b x = machineAtStart b (x .images)
 
 -- The order of the checks: 1, 2, then the first bad line, then by stamp. A readable text is answered as demand 3 says: z is what the demand admits. Every text is readable or has a first bad line.
 pub record Replays (text : List ℕ) (x : Buffers) (e : Ended) : Type 0 where

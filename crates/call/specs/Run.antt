@@ -10,7 +10,7 @@ use Rattle.record.specs.declared.Record.{Record}
 use Rattle.record.specs.declared.Reply.{Reply}
 use Rattle.record.specs.declared.Answer.{Answer}
 use Rattle.record.specs.Answers.{answerNumber}
-use Rattle.image.specs.Image.{Image}
+use Rattle.image.specs.Images.{Images}
 use Rattle.line.specs.Boards.{spelledBoard}
 use Rattle.machine.specs.Machine.{Machine, machineAtStart, head}
 use Rattle.text.specs.Texts.{Readable}
@@ -18,10 +18,10 @@ use Rattle.buffers.specs.Buffers.{repliesLength, resultBytes}
 use Rattle.call.specs.Replay.{Ended, endedAs, shown}
 
 -- an answer with its stamp and count, and the buffers as they are left
-abbrev pub endedWith : Answer → ℕ → ℕ → Image → Image → List ℕ → Ended
-endedWith a t count f e replies =
-    endedAs (answerNumber a) (record { flash = f; eeprom = e; replies = replies; result = resultBytes (answerNumber a) t count })
+abbrev pub endedWith : Answer → ℕ → ℕ → Images → List ℕ → Ended
+endedWith a t count x replies =
+    endedAs (answerNumber a) (record { images = x; replies = replies; result = resultBytes (answerNumber a) t count })
 
-pub record Runs (text : List ℕ) (first : ℕ) (b : Board) (f e : Image) (replies : List ℕ) (x : Ended) : Type 0 where
+pub record Runs (text : List ℕ) (first : ℕ) (b : Board) (x : Images) (replies : List ℕ) (e : Ended) : Type 0 where
   pub runs : (rs : List Record) → Readable text b rs → first ≡ length (spelledBoard b) → replies ≡ replicate repliesLength 0 →
-      (z : meaning.Answer Machine Reply) × Means (head b) rs (machineAtStart b f e) z × (x ≡ shown b rs z)
+      (z : meaning.Answer Machine Reply) × Means (head b) rs (machineAtStart b x) z × (e ≡ shown b rs z)

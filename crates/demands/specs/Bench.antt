@@ -1,5 +1,5 @@
 -- The sentences of the bench sheet of document 01, each about the rules that demand 3 speaks of (`head`): records played one after the other on a board,
--- from the start, with the lent images f (flash) and e (EEPROM). Cases 11 and 12 say what the demand admits for a trace with stamps.
+-- from the start, with the lent images x. Cases 11 and 12 say what the demand admits for a trace with stamps.
 use mathlib.Core.Path.{_≡_}
 use mathlib.Core.Bool.{false}
 use mathlib.Core.List.{List, [], _∷_, _++_}
@@ -21,7 +21,8 @@ use Rattle.record.specs.declared.Reply.{Reply}
 use Rattle.record.specs.declared.Reply.the-variants.{Silent, Byte, Ack, Starts}
 use Rattle.cell.specs.declared.Cell.{Cell}
 use Rattle.cell.specs.Rules.{programmedCell}
-use Rattle.image.specs.Image.{Image, cellAt}
+use Rattle.image.specs.Image.{cellAt}
+use Rattle.image.specs.Images.{Images}
 use Rattle.machine.specs.Machine.{Machine, machineAtStart, head}
 use Rattle.call.specs.Replay.{shown}
 
@@ -90,86 +91,86 @@ abbrev pub cell : ℕ → ℕ → Cell
 cell v m = record { value = v; mask = m }
 
 -- a place of the flash, and of the EEPROM, after the records
-abbrev pub flashAt : List Record → Image → Image → ℕ → Cell
-flashAt rs f e k = cellAt (after (head plain) rs (machineAtStart plain f e) .flash) k
+abbrev pub flashAt : List Record → Images → ℕ → Cell
+flashAt rs x k = cellAt (after (head plain) rs (machineAtStart plain x) .images .flash) k
 
-abbrev pub eepromAt : List Record → Image → Image → ℕ → Cell
-eepromAt rs f e k = cellAt (after (head plain) rs (machineAtStart plain f e) .eeprom) k
+abbrev pub eepromAt : List Record → Images → ℕ → Cell
+eepromAt rs x k = cellAt (after (head plain) rs (machineAtStart plain x) .images .eeprom) k
 
 -- the replies to the records
-abbrev pub saidOn : Board → List Record → Image → Image → List Reply
-saidOn b rs f e = said (head b) rs (machineAtStart b f e)
+abbrev pub saidOn : Board → List Record → Images → List Reply
+saidOn b rs x = said (head b) rs (machineAtStart b x)
 
 -- a kept byte as it is delivered
 abbrev pub byteOf : Cell → Reply
 byteOf c = Byte (c .value) (c .mask)
 
 -- what the demand admits for the trace has the answer n
-abbrev pub Answered : List Record → Image → Image → ℕ → Type 0
-Answered rs f e n = (z : meaning.Answer Machine Reply) × Means (head plain) rs (machineAtStart plain f e) z × (shown plain rs z .answer ≡ n)
+abbrev pub Answered : List Record → Images → ℕ → Type 0
+Answered rs x n = (z : meaning.Answer Machine Reply) × Means (head plain) rs (machineAtStart plain x) z × (shown plain rs z .answer ≡ n)
 
 -- ---- the sentences
 -- 1. ff/00 programmed a5: a5/00
-abbrev pub Case1 : Image → Image → Type 0
-Case1 f e = cellAt f 0x00000 ≡ cell 0xff 0x00 → flashAt (programmed 0x00000 (0xa5 ∷ [])) f e 0x00000 ≡ cell 0xa5 0x00
+abbrev pub Case1 : Images → Type 0
+Case1 x = cellAt (x .flash) 0x00000 ≡ cell 0xff 0x00 → flashAt (programmed 0x00000 (0xa5 ∷ [])) x 0x00000 ≡ cell 0xa5 0x00
 
 -- 2. Then 3c: 24/00
-abbrev pub Case2 : Image → Image → Type 0
-Case2 f e =
-    cellAt f 0x00000 ≡ cell 0xff 0x00 → flashAt (programmed 0x00000 (0xa5 ∷ []) ++ programmed 0x00000 (0x3c ∷ [])) f e 0x00000 ≡ cell 0x24 0x00
+abbrev pub Case2 : Images → Type 0
+Case2 x =
+    cellAt (x .flash) 0x00000 ≡ cell 0xff 0x00 → flashAt (programmed 0x00000 (0xa5 ∷ []) ++ programmed 0x00000 (0x3c ∷ [])) x 0x00000 ≡ cell 0x24 0x00
 
 -- 3. ff/00, 0f cut by `off`: 0f/f0
-abbrev pub Case3 : Image → Image → Type 0
-Case3 f e = cellAt f 0x00000 ≡ cell 0xff 0x00 → flashAt (cutOff 0x00000 (0x0f ∷ [])) f e 0x00000 ≡ cell 0x0f 0xf0
+abbrev pub Case3 : Images → Type 0
+Case3 x = cellAt (x .flash) 0x00000 ≡ cell 0xff 0x00 → flashAt (cutOff 0x00000 (0x0f ∷ [])) x 0x00000 ≡ cell 0x0f 0xf0
 
 -- 4. Then programmed 3c: 0c/30
-abbrev pub Case4 : Image → Image → Type 0
-Case4 f e =
-    cellAt f 0x00000 ≡ cell 0xff 0x00 → flashAt (cutOff 0x00000 (0x0f ∷ []) ++ (onL 0 SupplyOn ∷ programmed 0x00000 (0x3c ∷ []))) f e 0x00000 ≡ cell 0x0c 0x30
+abbrev pub Case4 : Images → Type 0
+Case4 x =
+    cellAt (x .flash) 0x00000 ≡ cell 0xff 0x00 → flashAt (cutOff 0x00000 (0x0f ∷ []) ++ (onL 0 SupplyOn ∷ programmed 0x00000 (0x3c ∷ []))) x 0x00000 ≡ cell 0x0c 0x30
 
 -- 5. Address fe0005 is 00005
-abbrev pub Case5 : Image → Image → Type 0
-Case5 f e = saidOn plain (opened 0 (0x03 ∷ (three 0xfe0005 ++ (0xff ∷ [])))) f e ≡ replicate 5 Silent ++ (byteOf (cellAt f 0x00005) ∷ [])
+abbrev pub Case5 : Images → Type 0
+Case5 x = saidOn plain (opened 0 (0x03 ∷ (three 0xfe0005 ++ (0xff ∷ [])))) x ≡ replicate 5 Silent ++ (byteOf (cellAt (x .flash) 0x00005) ∷ [])
 
 -- 6. PROGRAM at 000ff of 11 22: 22 is for 00000 (and 11 for 000ff; 00100 is as it was)
-abbrev pub Case6 : Image → Image → Type 0
-Case6 f e =
-    (flashAt (programmed 0x000ff (0x11 ∷ 0x22 ∷ [])) f e 0x00000 ≡ programmedCell (cellAt f 0x00000) 0x22)
-    × (flashAt (programmed 0x000ff (0x11 ∷ 0x22 ∷ [])) f e 0x000ff ≡ programmedCell (cellAt f 0x000ff) 0x11)
-    × (flashAt (programmed 0x000ff (0x11 ∷ 0x22 ∷ [])) f e 0x00100 ≡ cellAt f 0x00100)
+abbrev pub Case6 : Images → Type 0
+Case6 x =
+    (flashAt (programmed 0x000ff (0x11 ∷ 0x22 ∷ [])) x 0x00000 ≡ programmedCell (cellAt (x .flash) 0x00000) 0x22)
+    × (flashAt (programmed 0x000ff (0x11 ∷ 0x22 ∷ [])) x 0x000ff ≡ programmedCell (cellAt (x .flash) 0x000ff) 0x11)
+    × (flashAt (programmed 0x000ff (0x11 ∷ 0x22 ∷ [])) x 0x00100 ≡ cellAt (x .flash) 0x00100)
 
 -- 7. 257 data bytes from 00000: the last is for 00000
-abbrev pub Case7 : Image → Image → Type 0
-Case7 f e =
-    (ds : List ℕ) (last : ℕ) → length ds ≡ 256 → flashAt (programmed 0x00000 (ds ++ (last ∷ []))) f e 0x00000 ≡ programmedCell (cellAt f 0x00000) last
+abbrev pub Case7 : Images → Type 0
+Case7 x =
+    (ds : List ℕ) (last : ℕ) → length ds ≡ 256 → flashAt (programmed 0x00000 (ds ++ (last ∷ []))) x 0x00000 ≡ programmedCell (cellAt (x .flash) 0x00000) last
 
 -- 8. Status 08: sector 3 locked, 2 not (an erase there starts nothing, and a cycle)
-abbrev pub Case8 : Image → Image → Type 0
-Case8 f e =
-    (saidOn (boardOf 0x08) (wren 0 ++ framed 0 (0x52 ∷ three 0x10000)) f e ≡ replicate 9 Silent)
-    × (saidOn (boardOf 0x08) (wren 0 ++ framed 0 (0x52 ∷ three 0x08000)) f e ≡ replicate 8 Silent ++ (Starts ∷ []))
+abbrev pub Case8 : Images → Type 0
+Case8 x =
+    (saidOn (boardOf 0x08) (wren 0 ++ framed 0 (0x52 ∷ three 0x10000)) x ≡ replicate 9 Silent)
+    × (saidOn (boardOf 0x08) (wren 0 ++ framed 0 (0x52 ∷ three 0x08000)) x ≡ replicate 8 Silent ++ (Starts ∷ []))
 
 -- 9. EEPROM write at 003f of two bytes: the second is for 0000 (and the first for 003f; 0040 is as it was)
-abbrev pub Case9 : Image → Image → Type 0
-Case9 f e =
-    (eepromAt (stored 0x003f (0x11 ∷ 0x22 ∷ [])) f e 0x0000 ≡ cell 0x22 0x00)
-    × (eepromAt (stored 0x003f (0x11 ∷ 0x22 ∷ [])) f e 0x003f ≡ cell 0x11 0x00)
-    × (eepromAt (stored 0x003f (0x11 ∷ 0x22 ∷ [])) f e 0x0040 ≡ cellAt e 0x0040)
+abbrev pub Case9 : Images → Type 0
+Case9 x =
+    (eepromAt (stored 0x003f (0x11 ∷ 0x22 ∷ [])) x 0x0000 ≡ cell 0x22 0x00)
+    × (eepromAt (stored 0x003f (0x11 ∷ 0x22 ∷ [])) x 0x003f ≡ cell 0x11 0x00)
+    × (eepromAt (stored 0x003f (0x11 ∷ 0x22 ∷ [])) x 0x0040 ≡ cellAt (x .eeprom) 0x0040)
 
 -- 10. Read at 7fff goes on at 0000
-abbrev pub Case10 : Image → Image → Type 0
-Case10 f e =
-    saidOn plain (addressed (0xa0 ∷ two 0x7fff) ++ addressed (0xa1 ∷ 0x00 ∷ 0x00 ∷ [])) f e
-    ≡ Silent ∷ Ack ∷ Ack ∷ Ack ∷ Silent ∷ Ack ∷ byteOf (cellAt e 0x7fff) ∷ byteOf (cellAt e 0x0000) ∷ []
+abbrev pub Case10 : Images → Type 0
+Case10 x =
+    saidOn plain (addressed (0xa0 ∷ two 0x7fff) ++ addressed (0xa1 ∷ 0x00 ∷ 0x00 ∷ [])) x
+    ≡ Silent ∷ Ack ∷ Ack ∷ Ack ∷ Silent ∷ Ack ∷ byteOf (cellAt (x .eeprom) 0x7fff) ∷ byteOf (cellAt (x .eeprom) 0x0000) ∷ []
 
 -- 11. WREN's `des` and `off` at one stamp: settled
-abbrev pub Case11 : Image → Image → Type 0
-Case11 f e = Answered (opened 10 (0x06 ∷ []) ++ (onF 20 flash.Deselect ∷ onL 20 SupplyOff ∷ [])) f e 0
+abbrev pub Case11 : Images → Type 0
+Case11 x = Answered (opened 10 (0x06 ∷ []) ++ (onF 20 flash.Deselect ∷ onL 20 SupplyOff ∷ [])) x 0
 
 -- 12. The same with a valid PROGRAM: 7
-abbrev pub Case12 : Image → Image → Type 0
-Case12 f e = Answered (wren 10 ++ (opened 20 (0x02 ∷ (three 0x00000 ++ (0xa5 ∷ []))) ++ (onF 30 flash.Deselect ∷ onL 30 SupplyOff ∷ []))) f e 7
+abbrev pub Case12 : Images → Type 0
+Case12 x = Answered (wren 10 ++ (opened 20 (0x02 ∷ (three 0x00000 ++ (0xa5 ∷ []))) ++ (onF 30 flash.Deselect ∷ onL 30 SupplyOff ∷ []))) x 7
 
 -- ---- the sheet
-abbrev pub sheet : List (Image → Image → Type 0)
+abbrev pub sheet : List (Images → Type 0)
 sheet = Case1 ∷ Case2 ∷ Case3 ∷ Case4 ∷ Case5 ∷ Case6 ∷ Case7 ∷ Case8 ∷ Case9 ∷ Case10 ∷ Case11 ∷ Case12 ∷ []

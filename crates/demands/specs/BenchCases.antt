@@ -25,10 +25,12 @@ use Rattle.cell.specs.declared.Cell.{Cell}
 use Rattle.cell.specs.Rules.{programmedCell, cutCell, storedCell}
 use Rattle.page.specs.Rolling.{rolledIn, place, roll}
 use Rattle.page.specs.Laws.{rolled-256, place-first, place-next, roll-last, length-roll}
-use Rattle.image.specs.Image.{Image, fits, cellAt}
+use Rattle.image.specs.declared.view.Chip.{Chip}
+use Rattle.image.specs.Image.{Image, spans, cellAt}
+use Rattle.image.specs.Images.{Images, keptBytes}
 use Rattle.image.specs.Cycles.{programPage, cutProgramPage, storePage, isSent}
 use Rattle.image.proofs.AtPlace.{programPage-at, cutProgramPage-at, storePage-at}
-use Rattle.image.proofs.Keeping.{fits-programPage, fits-cutProgramPage}
+use Rattle.image.proofs.Keeping.{spans-programPage, spans-cutProgramPage}
 use Rattle.image.proofs.Reading.{page-behind}
 use Rattle.board.specs.Play.{movedOf}
 use Rattle.flash.specs.Cycle.{blank}
@@ -50,88 +52,88 @@ abbrev sent : ℕ → List ℕ
 sent d = set blank 0 d
 
 -- place 0 after a whole PROGRAM of it, and after a cut one
-whole-at : (i : Image) → fits i ≡ true → (d : ℕ) → cellAt (programPage 0 (sent d) i) 0 ≡ programmedCell (cellAt i 0) d
-whole-at i fit d = programPage-at i fit 0 (sent d) (omega arith) 0 (omega arith)
+whole-at : (i : Image) → spans (keptBytes Chip.Flash) i ≡ true → (d : ℕ) → cellAt (programPage 0 (sent d) i) 0 ≡ programmedCell (cellAt i 0) d
+whole-at i fit d = programPage-at i (keptBytes Chip.Flash) fit 0 (sent d) (omega arith) 0 (omega arith)
 
-cut-at : (i : Image) → fits i ≡ true → (d : ℕ) → cellAt (cutProgramPage 0 (sent d) i) 0 ≡ cutCell (cellAt i 0) d
-cut-at i fit d = cutProgramPage-at i fit 0 (sent d) (omega arith) 0 (omega arith)
+cut-at : (i : Image) → spans (keptBytes Chip.Flash) i ≡ true → (d : ℕ) → cellAt (cutProgramPage 0 (sent d) i) 0 ≡ cutCell (cellAt i 0) d
+cut-at i fit d = cutProgramPage-at i (keptBytes Chip.Flash) fit 0 (sent d) (omega arith) 0 (omega arith)
 
 -- a PROGRAM frame with its address in, at a place of page 0
-abbrev sending : ℕ → List ℕ → Image → Image → ℕ → Machine
-sending place page f e count =
+abbrev sending : ℕ → List ℕ → Images → ℕ → Machine
+sending place page x count =
     machineOf
     (record {
       flash = record { frame = Command op.Program (record { count = count; place = place }) Absent; cycle = None; status = Known 2; page = page };
       eeprom = eeprom-chip.startOf;
       lines = linesAtStart;
     })
-    f e
+    x
 
-module _ (f e : Image) where
-  send-one : (p : ℕ) (page : List ℕ) (d : ℕ) → p < 256 → playOn plain (sending p page f e 5) (onF 0 (flash.Byte d 0xff)) ≡ sending ((p + 1) % 256) (set page p d) f e 5
+module _ (x : Images) where
+  send-one : (p : ℕ) (page : List ℕ) (d : ℕ) → p < 256 → playOn plain (sending p page x 5) (onF 0 (flash.Byte d 0xff)) ≡ sending ((p + 1) % 256) (set page p d) x 5
   unfolding playOn movedOf flashAfter eepromAfter
   send-one p page d h =
       let small : p % 256 ≡ p = mod-eq-of-lt h in
       let next : p / 256 * 256 + rolledIn 255 (p % 256) ≡ (p + 1) % 256 =
-      ap₂ (λ (x y : ℕ). x * 256 + rolledIn 255 y) (div-eq-of-lt h) small ∙ zero-add (rolledIn 255 p) ∙ rolled-256 p h in
-      λ i. sending (next i) (set page (small i) d) f e 5
+      ap₂ (λ (a b : ℕ). a * 256 + rolledIn 255 b) (div-eq-of-lt h) small ∙ zero-add (rolledIn 255 p) ∙ rolled-256 p h in
+      λ i. sending (next i) (set page (small i) d) x 5
 
   -- the data roll in the page
-  send-all : (ds : List ℕ) (p : ℕ) (page : List ℕ) → p < 256 → after (head plain) (xs 0 ds) (sending p page f e 5) ≡ sending (place 256 p (length ds)) (roll 256 p ds page) f e 5
+  send-all : (ds : List ℕ) (p : ℕ) (page : List ℕ) → p < 256 → after (head plain) (xs 0 ds) (sending p page x 5) ≡ sending (place 256 p (length ds)) (roll 256 p ds page) x 5
   unfolding after
-  send-all [] p page h = ap (λ (k : ℕ). sending k page f e 5) (sym (place-first 256 p h))
+  send-all [] p page h = ap (λ (k : ℕ). sending k page x 5) (sym (place-first 256 p h))
   send-all (d ∷ ds) p page h =
       ap (after (head plain) (xs 0 ds)) (send-one p page d h)
       ∙ send-all ds ((p + 1) % 256) (set page p d) (mod-lt (p + 1) (omega arith))
-      ∙ ap (λ (k : ℕ). sending k (roll 256 p (d ∷ ds) page) f e 5) (place-next 256 p (length ds))
+      ∙ ap (λ (k : ℕ). sending k (roll 256 p (d ∷ ds) page) x 5) (place-next 256 p (length ds))
 
   -- 256 bytes from place 1 on end at place 1 again; then `des` and `end`
   send-done : (ds page : List ℕ) → length ds ≡ 256 →
-      after (head plain) ((xs 0 ds ++ (onF 0 flash.Deselect ∷ [])) ++ (onF 0 flash.End ∷ [])) (sending 1 page f e 5) .flash ≡ programPage 0 (roll 256 1 ds page) f
+      after (head plain) ((xs 0 ds ++ (onF 0 flash.Deselect ∷ [])) ++ (onF 0 flash.End ∷ [])) (sending 1 page x 5) .images .flash ≡ programPage 0 (roll 256 1 ds page) (x .flash)
   unfolding after playOn movedOf flashAfter eepromAfter
   send-done ds page h =
-      let sent-all : after (head plain) (xs 0 ds) (sending 1 page f e 5) ≡ sending 1 (roll 256 1 ds page) f e 5 =
-      send-all ds 1 page (omega arith) ∙ ap (λ (k : ℕ). sending (place 256 1 k) (roll 256 1 ds page) f e 5) h in
-      ap (λ (m : Machine). m .flash)
-      (after-append (head plain) (xs 0 ds ++ (onF 0 flash.Deselect ∷ [])) (onF 0 flash.End ∷ []) (sending 1 page f e 5)
+      let sent-all : after (head plain) (xs 0 ds) (sending 1 page x 5) ≡ sending 1 (roll 256 1 ds page) x 5 =
+      send-all ds 1 page (omega arith) ∙ ap (λ (k : ℕ). sending (place 256 1 k) (roll 256 1 ds page) x 5) h in
+      ap (λ (m : Machine). m .images .flash)
+      (after-append (head plain) (xs 0 ds ++ (onF 0 flash.Deselect ∷ [])) (onF 0 flash.End ∷ []) (sending 1 page x 5)
       ∙ ap (after (head plain) (onF 0 flash.End ∷ []))
-      (after-append (head plain) (xs 0 ds) (onF 0 flash.Deselect ∷ []) (sending 1 page f e 5) ∙ ap (after (head plain) (onF 0 flash.Deselect ∷ [])) sent-all))
+      (after-append (head plain) (xs 0 ds) (onF 0 flash.Deselect ∷ []) (sending 1 page x 5) ∙ ap (after (head plain) (onF 0 flash.Deselect ∷ [])) sent-all))
 
-module _ (f e : Image) (fit : fits f ≡ true) where
-  pub case1 : Case1 f e
+module _ (x : Images) (fit : spans (keptBytes Chip.Flash) (x .flash) ≡ true) where
+  pub case1 : Case1 x
   unfolding after playOn movedOf flashAfter eepromAfter
-  case1 h = whole-at f fit 0xa5 ∙ ap (λ (c : Cell). programmedCell c 0xa5) h
+  case1 h = whole-at (x .flash) fit 0xa5 ∙ ap (λ (c : Cell). programmedCell c 0xa5) h
 
-  pub case2 : Case2 f e
+  pub case2 : Case2 x
   unfolding after playOn movedOf flashAfter eepromAfter
   case2 h =
-      whole-at (programPage 0 (sent 0xa5) f) (fits-programPage f 0 (sent 0xa5) ∙ fit) 0x3c
-      ∙ ap (λ (c : Cell). programmedCell c 0x3c) (whole-at f fit 0xa5 ∙ ap (λ (c : Cell). programmedCell c 0xa5) h)
+      whole-at (programPage 0 (sent 0xa5) (x .flash)) (spans-programPage (x .flash) (keptBytes Chip.Flash) 0 (sent 0xa5) ∙ fit) 0x3c
+      ∙ ap (λ (c : Cell). programmedCell c 0x3c) (whole-at (x .flash) fit 0xa5 ∙ ap (λ (c : Cell). programmedCell c 0xa5) h)
 
-  pub case3 : Case3 f e
+  pub case3 : Case3 x
   unfolding after playOn movedOf flashAfter eepromAfter
-  case3 h = cut-at f fit 0x0f ∙ ap (λ (c : Cell). cutCell c 0x0f) h
+  case3 h = cut-at (x .flash) fit 0x0f ∙ ap (λ (c : Cell). cutCell c 0x0f) h
 
-  pub case4 : Case4 f e
+  pub case4 : Case4 x
   unfolding after playOn movedOf flashAfter eepromAfter
   case4 h =
-      whole-at (cutProgramPage 0 (sent 0x0f) f) (fits-cutProgramPage f 0 (sent 0x0f) ∙ fit) 0x3c
-      ∙ ap (λ (c : Cell). programmedCell c 0x3c) (cut-at f fit 0x0f ∙ ap (λ (c : Cell). cutCell c 0x0f) h)
+      whole-at (cutProgramPage 0 (sent 0x0f) (x .flash)) (spans-cutProgramPage (x .flash) (keptBytes Chip.Flash) 0 (sent 0x0f) ∙ fit) 0x3c
+      ∙ ap (λ (c : Cell). programmedCell c 0x3c) (cut-at (x .flash) fit 0x0f ∙ ap (λ (c : Cell). cutCell c 0x0f) h)
 
-  pub case5 : Case5 f e
+  pub case5 : Case5 x
   unfolding said playOn saysOn movedOf delivered flashAfter eepromAfter
   case5 = refl
 
-  pub case6 : Case6 f e
+  pub case6 : Case6 x
   unfolding after playOn movedOf flashAfter eepromAfter programPage
   case6 =
       let page : List ℕ = set (set blank 255 0x11) 0 0x22 in (
-        programPage-at f fit 0 page (omega arith) 0x00 (omega arith),
-        programPage-at f fit 0 page (omega arith) 0xff (omega arith),
-        page-behind 256 0 (λ q c. programmedCell c (getD page q 0)) f 0x100 (omega arith) (omega arith),
+        programPage-at (x .flash) (keptBytes Chip.Flash) fit 0 page (omega arith) 0x00 (omega arith),
+        programPage-at (x .flash) (keptBytes Chip.Flash) fit 0 page (omega arith) 0xff (omega arith),
+        page-behind 256 0 (λ q c. programmedCell c (getD page q 0)) (x .flash) 0x100 (omega arith) (omega arith),
       )
 
-  pub case7 : Case7 f e
+  pub case7 : Case7 x
   unfolding after playOn movedOf flashAfter eepromAfter
   case7 [] last h = absurd (omega arith)
   case7 (c ∷ ds) last h =
@@ -140,26 +142,26 @@ module _ (f e : Image) (fit : fits f ≡ true) where
       let page : List ℕ = roll 256 1 ds (set blank 0 c) in
       let here : roll 256 1 (ds ++ (last ∷ [])) (set blank 0 c) ≡ set page 0 last =
       roll-last 256 1 ds last (set blank 0 c) (omega arith) ∙ ap (λ (k : ℕ). set page (place 256 1 k) last) most in
-      ap (λ (i : Image). cellAt i 0) (send-done f e (ds ++ (last ∷ [])) (set blank 0 c) len)
-      ∙ programPage-at f fit 0 (roll 256 1 (ds ++ (last ∷ [])) (set blank 0 c)) (omega arith) 0 (omega arith)
-      ∙ ap (λ (x : List ℕ). programmedCell (cellAt f 0) (getD x 0 0)) here
-      ∙ ap (programmedCell (cellAt f 0)) (getD-set-same page 0 last 0 (omega (arith, length-roll 256 1 ds (set blank 0 c))))
+      ap (λ (i : Image). cellAt i 0) (send-done x (ds ++ (last ∷ [])) (set blank 0 c) len)
+      ∙ programPage-at (x .flash) (keptBytes Chip.Flash) fit 0 (roll 256 1 (ds ++ (last ∷ [])) (set blank 0 c)) (omega arith) 0 (omega arith)
+      ∙ ap (λ (w : List ℕ). programmedCell (cellAt (x .flash) 0) (getD w 0 0)) here
+      ∙ ap (programmedCell (cellAt (x .flash) 0)) (getD-set-same page 0 last 0 (omega (arith, length-roll 256 1 ds (set blank 0 c))))
 
-  pub case8 : Case8 f e
+  pub case8 : Case8 x
   unfolding said playOn saysOn movedOf delivered flashAfter eepromAfter
   case8 = (refl, refl)
 
-module _ (f e : Image) (fit : fits e ≡ true) where
-  pub case9 : Case9 f e
+module _ (x : Images) (fit : spans (keptBytes Chip.Eeprom) (x .eeprom) ≡ true) where
+  pub case9 : Case9 x
   unfolding after playOn movedOf flashAfter eepromAfter storePage
   case9 =
       let page : List ℕ = set (set eeprom-chip.blank 63 0x11) 0 0x22 in (
-        storePage-at e fit 0 63 2 page (omega arith) (omega arith) 0x00 (omega arith) refl,
-        storePage-at e fit 0 63 2 page (omega arith) (omega arith) 0x3f (omega arith) refl,
-        page-behind 64 0 (λ q c. pick (isSent 63 2 q) (storedCell (getD page q 0)) c) e 0x40 (omega arith) (omega arith),
+        storePage-at (x .eeprom) (keptBytes Chip.Eeprom) fit 0 63 2 page (omega arith) (omega arith) 0x00 (omega arith) refl,
+        storePage-at (x .eeprom) (keptBytes Chip.Eeprom) fit 0 63 2 page (omega arith) (omega arith) 0x3f (omega arith) refl,
+        page-behind 64 0 (λ q c. pick (isSent 63 2 q) (storedCell (getD page q 0)) c) (x .eeprom) 0x40 (omega arith) (omega arith),
       )
 
-  pub case10 : Case10 f e
+  pub case10 : Case10 x
   unfolding said playOn saysOn movedOf delivered flashAfter eepromAfter
   case10 = refl
 
@@ -167,25 +169,25 @@ module _ (f e : Image) (fit : fits e ≡ true) where
 abbrev desOff : ℕ → List Record
 desOff stamp = onF stamp flash.Deselect ∷ onL stamp SupplyOff ∷ []
 
-module _ (f e : Image) where
+module _ (x : Images) where
   -- WREN's frame is open
   abbrev enabling : Machine
-  enabling = after (head plain) (opened 10 (0x06 ∷ [])) (machineAtStart plain f e)
+  enabling = after (head plain) (opened 10 (0x06 ∷ [])) (machineAtStart plain x)
 
   des-off-alike : Alike (head plain) (desOff 20) enabling
   unfolding All gather orders places behind after replies keep playOn saysOn movedOf delivered flashAfter eepromAfter
   des-off-alike =
       listed-alike (head plain) (desOff 20) enabling (refl, (same-outcome _ _ refl (refl, (refl, (refl, tt))), tt))
 
-  pub case11 : Case11 f e
+  pub case11 : Case11 x
   unfolding filter keep All after playOn movedOf flashAfter eepromAfter shown shownAs goesOn
   case11 =
       let frame : List Record = opened 10 (0x06 ∷ []) in
       let last = stamp-passes (head plain) (desOff 20) [] 20 (refl, (refl, tt)) tt refl enabling refl
       des-off-alike refl _ (means-end (head plain) _ refl) in (
         _,
-        stamp-passes (head plain) frame (desOff 20) 10 (refl, (refl, tt)) (omega arith, (omega arith, tt)) refl (machineAtStart plain f e) refl
-            (one-channel (head plain) F frame (refl, (refl, tt)) (machineAtStart plain f e)) refl _ last,
+        stamp-passes (head plain) frame (desOff 20) 10 (refl, (refl, tt)) (omega arith, (omega arith, tt)) refl (machineAtStart plain x) refl
+            (one-channel (head plain) F frame (refl, (refl, tt)) (machineAtStart plain x)) refl _ last,
         refl,
       )
 
@@ -194,7 +196,7 @@ module _ (f e : Image) where
   written = opened 20 (0x02 ∷ (three 0x00000 ++ (0xa5 ∷ [])))
 
   abbrev enabled : Machine
-  enabled = after (head plain) (wren 10) (machineAtStart plain f e)
+  enabled = after (head plain) (wren 10) (machineAtStart plain x)
 
   abbrev programming : Machine
   programming = after (head plain) written enabled
@@ -208,7 +210,7 @@ module _ (f e : Image) where
       let z : _≡_ {A = ℕ} 0 1 = cc in
       omega arith
 
-  pub case12 : Case12 f e
+  pub case12 : Case12 x
   unfolding filter keep All after playOn movedOf flashAfter eepromAfter shown shownAs goesOn
   case12 =
       let six : All (λ (r : Record). r .stamp ≡ 20) written = (refl, (refl, (refl, (refl, (refl, (refl, tt)))))) in
@@ -219,7 +221,7 @@ module _ (f e : Image) where
         _,
         stamp-passes (head plain) (wren 10) (written ++ desOff 30) 10 (refl, (refl, (refl, tt)))
             (omega arith, (omega arith, (omega arith, (omega arith, (omega arith, (omega arith, (omega arith, (omega arith, tt))))))))
-            refl (machineAtStart plain f e) refl
-            (one-channel (head plain) F (wren 10) (refl, (refl, (refl, tt))) (machineAtStart plain f e)) refl _ next,
+            refl (machineAtStart plain x) refl
+            (one-channel (head plain) F (wren 10) (refl, (refl, (refl, tt))) (machineAtStart plain x)) refl _ next,
         refl,
       )

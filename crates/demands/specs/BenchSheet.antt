@@ -1,42 +1,41 @@
 -- The bench sheet: one list (`sheet`, its sentences stand in Bench), one theorem over it.
-use mathlib.Core.Path.{_≡_}
-use mathlib.Core.Bool.{true}
 use mathlib.Core.List.{List, [], _∷_}
-use Rattle.image.specs.Image.{Image, fits}
+use Rattle.image.specs.declared.view.Chip.{Chip}
+use Rattle.image.specs.Images.{Images, Kept}
 use Rattle.demands.specs.Bench.{sheet}
 use Rattle.demands.specs.BenchCases.{case1, case2, case3, case4, case5, case6, case7, case8, case9, case10, case11, case12}
 
 -- all sentences of a list hold
-unfoldable pub AllHold : List (Image → Image → Type 0) → Image → Image → Type 0
-AllHold [] f e = Unit {0}
-AllHold (c ∷ cs) f e = c f e × AllHold cs f e
+unfoldable pub AllHold : List (Images → Type 0) → Images → Type 0
+AllHold [] x = Unit {0}
+AllHold (c ∷ cs) x = c x × AllHold cs x
 
--- the twelve sentences hold of all images of 32,768 bytes
-pub bench-sheet : (f e : Image) → fits f ≡ true → fits e ≡ true → AllHold sheet f e
+-- the twelve sentences hold of all images of the chips' lengths
+pub bench-sheet : (x : Images) → Kept x → AllHold sheet x
 unfolding AllHold
-bench-sheet f e hf he = (
-  case1 f e hf,
+bench-sheet x h = (
+  case1 x (h Chip.Flash),
   (
-    case2 f e hf,
+    case2 x (h Chip.Flash),
     (
-      case3 f e hf,
+      case3 x (h Chip.Flash),
       (
-        case4 f e hf,
+        case4 x (h Chip.Flash),
         (
-          case5 f e hf,
+          case5 x (h Chip.Flash),
           (
-            case6 f e hf,
+            case6 x (h Chip.Flash),
             (
-              case7 f e hf,
+              case7 x (h Chip.Flash),
               (
-                case8 f e hf,
+                case8 x (h Chip.Flash),
                 (
-                  case9 f e he,
+                  case9 x (h Chip.Eeprom),
                   (
-                    case10 f e he,
+                    case10 x (h Chip.Eeprom),
                     (
-                      case11 f e,
-                      (case12 f e, tt),
+                      case11 x,
+                      (case12 x, tt),
                     ),
                   ),
                 ),

@@ -3,7 +3,7 @@
 use mathlib.Core.Path.{_≡_, refl, ap₂, _∙_}
 use mathlib.Core.Bool.{true, false}
 use mathlib.Core.List.{List, [], _∷_, _++_}
-use Prim.Native.Nat.{ℕ, zero, suc, _+_, _-_, _*_, _%_}
+use Prim.Native.Nat.{ℕ, zero, suc, _+_, _-_, _*_}
 use native.Mathlib.Omega.{arith}
 use lib.Bits.{bitAnd, and-zero-r}
 use lib.Dec.{eqb, ltb}
@@ -21,9 +21,12 @@ use Rattle.record.specs.declared.Skeleton.the-variants as skeleton
 use Rattle.record.specs.declared.Reply.{Reply}
 use Rattle.record.specs.Replies.{replyValue, replyMask}
 use Rattle.cell.specs.Rules.{Disjoint}
+use Rattle.image.specs.declared.view.Chip.{Chip}
 use Rattle.image.specs.Image.{Image, Clean}
+use Rattle.image.specs.Images.{Images, AllClean}
 use Rattle.image.specs.Cycles.{programPage, cutProgramPage, eraseAll, cutEraseAll}
 use Rattle.image.proofs.Keeping.{clean-programPage, clean-cutProgramPage, clean-eraseAll, clean-cutEraseAll, clean-storePage, clean-cutStorePage}
+use Rattle.board.specs.declared.Controls.{Controls}
 use Rattle.board.specs.Play.{movedOf}
 use Rattle.flash.specs.declared.Flash.{Flash}
 use Rattle.flash.specs.declared.FlashStatus.{FlashStatus}
@@ -34,7 +37,7 @@ use Rattle.eeprom.specs.declared.EepromCycle.{EepromCycle}
 use Rattle.eeprom.specs.declared.EepromCycle.the-variants as eeprom-cycle
 use Rattle.machine.specs.declared.Stroke.{Stroke}
 use Rattle.machine.specs.declared.Stroke.the-variants.{Nothing, Whole, Cut}
-use Rattle.machine.specs.Effects.{sectorOfPage, reached, flashWhole, flashCut, flashAfter, eepromWhole, eepromCut, eepromAfter, flashStroke, eepromStroke}
+use Rattle.machine.specs.Effects.{sectorOfPage, inSector, reached, flashWhole, flashCut, flashAfter, eepromWhole, eepromCut, eepromAfter, flashStroke, eepromStroke, imagesAfter}
 use Rattle.machine.specs.Replies.{delivered}
 use Rattle.machine.specs.Machine.{Machine, imageFor, head, playOn, saysOn}
 use Rattle.buffers.specs.Buffers.{Buffers, repliesLength, fit}
@@ -48,14 +51,14 @@ use Rattle.demands.specs.Ways.{Way, unfit, long, bad, played, way}
 -- ---- a cycle keeps it
 flash-whole : (watched : ℕ) (c : FlashCycle) (page : List ℕ) (s : FlashStatus) (i : Image) → Clean i → Clean (flashWhole watched c page s i)
 flash-whole watched flash-cycle.None page s i h = h
-flash-whole watched (flash-cycle.Program n) page s i h = of-both Clean (eqb (sectorOfPage n) watched) (programPage (n % 128) page i) i (clean-programPage i h _ page) h
+flash-whole watched (flash-cycle.Program n) page s i h = of-both Clean (eqb (sectorOfPage n) watched) (programPage (inSector n) page i) i (clean-programPage i h _ page) h
 flash-whole watched (flash-cycle.SectorErase k) page s i h = of-both Clean (eqb k watched) (eraseAll i) i (clean-eraseAll i h) h
 flash-whole watched flash-cycle.ChipErase page s i h = of-both Clean (reached s watched) (eraseAll i) i (clean-eraseAll i h) h
 flash-whole watched (flash-cycle.WriteStatus bits) page s i h = h
 
 flash-cut : (watched : ℕ) (c : FlashCycle) (page : List ℕ) (s : FlashStatus) (i : Image) → Clean i → Clean (flashCut watched c page s i)
 flash-cut watched flash-cycle.None page s i h = h
-flash-cut watched (flash-cycle.Program n) page s i h = of-both Clean (eqb (sectorOfPage n) watched) (cutProgramPage (n % 128) page i) i (clean-cutProgramPage i h (n % 128) page) h
+flash-cut watched (flash-cycle.Program n) page s i h = of-both Clean (eqb (sectorOfPage n) watched) (cutProgramPage (inSector n) page i) i (clean-cutProgramPage i h (inSector n) page) h
 flash-cut watched (flash-cycle.SectorErase k) page s i h = of-both Clean (eqb k watched) (cutEraseAll i) i (clean-cutEraseAll i h) h
 flash-cut watched flash-cycle.ChipErase page s i h = of-both Clean (reached s watched) (cutEraseAll i) i (clean-cutEraseAll i h) h
 flash-cut watched (flash-cycle.WriteStatus bits) page s i h = h
@@ -81,18 +84,15 @@ eeprom-after Whole x i h = eeprom-whole (x .cycle) (x .page) i h
 eeprom-after Cut x i h = eeprom-cut (x .cycle) i h
 
 -- ---- a record keeps it, and so do all records
-pub record BothClean (m : Machine) : Type 0 where
-  pub flash : Clean (m .flash)
-  pub eeprom : Clean (m .eeprom)
+images-clean : (b : Board) (c : Controls) (v : Event) (k : Skeleton) (x : Images) → AllClean x → AllClean (imagesAfter b c v k x)
+images-clean b c v k x h Chip.Flash = flash-after (flashStroke (c .lines) v k) (b .sector) (c .flash) (x .flash) (h Chip.Flash)
+images-clean b c v k x h Chip.Eeprom = eeprom-after (eepromStroke (c .lines) v k) (c .eeprom) (x .eeprom) (h Chip.Eeprom)
 
-pub play-clean : (b : Board) (m : Machine) (r : Record) → BothClean m → BothClean (playOn b m r)
+pub play-clean : (b : Board) (m : Machine) (r : Record) → AllClean (m .images) → AllClean (playOn b m r .images)
 unfolding playOn
-play-clean b m r h = record {
-  flash = flash-after (flashStroke (m .controls .lines) (r .event) (movedOf b (m .controls) r .reply)) (b .sector) (m .controls .flash) (m .flash) (h .flash);
-  eeprom = eeprom-after (eepromStroke (m .controls .lines) (r .event) (movedOf b (m .controls) r .reply)) (m .controls .eeprom) (m .eeprom) (h .eeprom);
-}
+play-clean b m r h = images-clean b (m .controls) (r .event) (movedOf b (m .controls) r .reply) (m .images) h
 
-pub after-clean : (b : Board) (o : List Record) (m : Machine) → BothClean m → BothClean (after (head b) o m)
+pub after-clean : (b : Board) (o : List Record) (m : Machine) → AllClean (m .images) → AllClean (after (head b) o m .images)
 unfolding after
 after-clean b [] m h = h
 after-clean b (r ∷ o) m h = after-clean b o (playOn b m r) (play-clean b m r h)
@@ -112,16 +112,16 @@ deliver-sure i skeleton.Starts h = refl
 deliver-sure i skeleton.Ends h = refl
 deliver-sure i skeleton.NoCycle h = refl
 
-image-clean : (v : Event) (m : Machine) → BothClean m → Clean (imageFor v (m .flash) (m .eeprom))
-image-clean (event.Flash e) m h = h .flash
-image-clean (event.Eeprom e) m h = h .eeprom
-image-clean (event.Line e) m h = h .flash
+image-clean : (v : Event) (m : Machine) → AllClean (m .images) → Clean (imageFor v (m .images))
+image-clean (event.Flash e) m h = h Chip.Flash
+image-clean (event.Eeprom e) m h = h Chip.Eeprom
+image-clean (event.Line e) m h = h Chip.Flash
 
-said-sure : (b : Board) (o : List Record) (m : Machine) → BothClean m → All Sure (said (head b) o m)
+said-sure : (b : Board) (o : List Record) (m : Machine) → AllClean (m .images) → All Sure (said (head b) o m)
 unfolding said All saysOn
 said-sure b [] m h = tt
 said-sure b (r ∷ o) m h =
-    (deliver-sure (imageFor (r .event) (m .flash) (m .eeprom)) (movedOf b (m .controls) r .reply) (image-clean (r .event) m h), said-sure b o (playOn b m r) (play-clean b m r h))
+    (deliver-sure (imageFor (r .event) (m .images)) (movedOf b (m .controls) r .reply) (image-clean (r .event) m h), said-sure b o (playOn b m r) (play-clean b m r h))
 
 -- ---- so do the reply bytes: the second and the third of every four
 zeros-at : (n j : ℕ) → getD {A = ℕ} (replicate n 0) j 0 ≡ 0
@@ -149,21 +149,21 @@ unfolding padded
 padded-sure ps ys h k = bytes-sure ps ys (repliesLength - length (replyLines ps ys)) h k
 
 -- ---- the call
-left-clean : (b : Board) (n t : ℕ) (ps : List Record) (m : Machine) → BothClean m → Clean (leftBy b n t ps m .buffers .flash) × Clean (leftBy b n t ps m .buffers .eeprom)
+left-clean : (b : Board) (n t : ℕ) (ps : List Record) (m : Machine) → AllClean (m .images) → AllClean (leftBy b n t ps m .buffers .images)
 unfolding leftBy
-left-clean b n t ps m h = let k = after-clean b ps m h in (k .flash, k .eeprom)
+left-clean b n t ps m h = after-clean b ps m h
 
-way-clean : (text : List ℕ) (x : Buffers) (e : Ended) → Fit x → Way text x e → Clean (e .buffers .flash) × Clean (e .buffers .eeprom)
+way-clean : (text : List ℕ) (x : Buffers) (e : Ended) → Fit x → Way text x e → AllClean (e .buffers .images)
 unfolding refusedAs
-way-clean text x e h (unfit f k) = rw k (h .flash-clean, h .eeprom-clean)
-way-clean text x e h (long f l k) = rw k (h .flash-clean, h .eeprom-clean)
-way-clean text x e h (bad f l a n w k) = rw k (h .flash-clean, h .eeprom-clean)
+way-clean text x e h (unfit f k) = rw k (h .clean)
+way-clean text x e h (long f l k) = rw k (h .clean)
+way-clean text x e h (bad f l a n w k) = rw k (h .clean)
 way-clean text x e h (played f l b rs q z d k) =
     let m = startWith b x in
-    rw (k ∙ left-shown b rs (readable-back q) m z d) (left-clean b _ _ _ m (record { flash = h .flash-clean; eeprom = h .eeprom-clean }))
+    rw (k ∙ left-shown b rs (readable-back q) m z d) (left-clean b _ _ _ m (h .clean))
 
 -- lent buffers that fit are given back with no bit set both in a value and in its mask, whatever the text and the answer
-pub sure-means-disjoint : {text : List ℕ} {x : Buffers} {e : Ended} → Replays text x e → fit x ≡ true → Clean (e .buffers .flash) × Clean (e .buffers .eeprom)
+pub sure-means-disjoint : {text : List ℕ} {x : Buffers} {e : Ended} → Replays text x e → fit x ≡ true → AllClean (e .buffers .images)
 sure-means-disjoint {text} {x} {e} p f = way-clean text x e (fit-says x f) (way p)
 
 -- and of a readable text each reply's value AND mask are 0: reply k has its value at 4 k + 1, its mask at 4 k + 2
@@ -175,4 +175,4 @@ replies-disjoint {text} {x} {e} {b} {rs} p f l q k =
     let m = startWith b x in
     let z = call-left p f l q in
     let ps = recordsOf b (z .0) rs in
-    rw (z .2) (padded-sure ps (said (head b) ps m) (said-sure b ps m (record { flash = h .flash-clean; eeprom = h .eeprom-clean })) k)
+    rw (z .2) (padded-sure ps (said (head b) ps m) (said-sure b ps m (h .clean)) k)

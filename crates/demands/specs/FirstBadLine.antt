@@ -31,15 +31,13 @@ module _ (x : Buffers) {e : Ended} (a : Answer) (n : ℕ) (q : e ≡ refusedAs a
 
 -- the images with their masks and the replies are as they were lent
 pub record Untouched (x : Buffers) (e : Ended) : Type 0 where
-  pub flash : e .buffers .flash ≡ x .flash
-  pub eeprom : e .buffers .eeprom ≡ x .eeprom
+  pub images : e .buffers .images ≡ x .images
   pub replies : e .buffers .replies ≡ x .replies
 
 leaves : (x : Buffers) (e : Ended) (a : Answer) (n : ℕ) → e ≡ refusedAs a n x → Untouched x e
 unfolding refusedAs
 leaves x e a n q = record {
-  flash = ap (λ (k : Ended). k .buffers .flash) q;
-  eeprom = ap (λ (k : Ended). k .buffers .eeprom) q;
+  images = ap (λ (k : Ended). k .buffers .images) q;
   replies = ap (λ (k : Ended). k .buffers .replies) q;
 }
 
@@ -123,7 +121,7 @@ module _ {text : List ℕ} {x : Buffers} {e : Ended} (p : Replays text x e) wher
   -- 'with a wrong length nothing is written there': nothing is written anywhere
   pub wrong-result-length : (length (x .result) ≡ resultLength → ⊥) → e ≡ endedAs 1 x
   unfolding refusedAs resultAfter
-  wrong-result-length h = p .unfit unfits ∙ ap (λ (t : Bool). endedAs 1 (record { flash = x .flash; eeprom = x .eeprom; replies = x .replies; result = pick t (resultBytes 1 0 0) (x .result) })) (ne-eqb _ _ h)
+  wrong-result-length h = p .unfit unfits ∙ ap (λ (t : Bool). endedAs 1 (record { images = x .images; replies = x .replies; result = pick t (resultBytes 1 0 0) (x .result) })) (ne-eqb _ _ h)
     where
       unfits : fit x ≡ false
       unfits = split (fit x) (λ t. absurd (h (fit-says x t .result-long))) (λ t. t)

@@ -12,7 +12,7 @@ use Rattle.record.specs.declared.Board.{Board}
 use Rattle.record.specs.declared.Record.{Record}
 use Rattle.record.specs.declared.FlashEvent.the-variants as flash
 use Rattle.record.specs.declared.LineEvent.the-variants.{SupplyOff}
-use Rattle.image.specs.Image.{Image}
+use Rattle.image.specs.Images.{Images}
 use Rattle.field.specs.Hex.{hexDigit, hexField}
 use Rattle.field.specs.Digit.{digitField}
 use Rattle.field.specs.Decimal.{digitsIn, decimal, decimalTo}
@@ -109,28 +109,28 @@ unfolding AllOk NeverBack buses.after
 programmed-written = is-written plain programmed plain-ok (omega arith) (omega arith) (_, refl) (omega arith)
 
 -- ---- the listing and case 1 settle: each of their stamps has records of one channel alone. Of cases 11 and 12 the bench sheet says what holds.
-module _ (f e : Image) where
+module _ (x : Images) where
   abbrev told : ℕ → Machine
-  told so = after (head plain) (asked so) (machineAtStart plain f e)
+  told so = after (head plain) (asked so) (machineAtStart plain x)
 
-  pub listing-settled : (so : ℕ) → Answered (listing so) f e 0
+  pub listing-settled : (so : ℕ) → Answered (listing so) x 0
   unfolding filter keep All after playOn movedOf flashAfter eepromAfter shown shownAs goesOn
   listing-settled so =
       let last = stamp-passes (head plain) (onL 80 SupplyOff ∷ []) [] 80 (refl, tt) tt refl (told so) refl
       (one-channel (head plain) L (onL 80 SupplyOff ∷ []) (refl, tt) (told so)) refl _ (means-end (head plain) _ refl) in (
         _,
-        stamp-passes (head plain) (asked so) (onL 80 SupplyOff ∷ []) 10 (refl, (refl, (refl, (refl, tt)))) (omega arith, tt) refl (machineAtStart plain f e) refl
-            (one-channel (head plain) F (asked so) (refl, (refl, (refl, (refl, tt)))) (machineAtStart plain f e)) refl _ last,
+        stamp-passes (head plain) (asked so) (onL 80 SupplyOff ∷ []) 10 (refl, (refl, (refl, (refl, tt)))) (omega arith, tt) refl (machineAtStart plain x) refl
+            (one-channel (head plain) F (asked so) (refl, (refl, (refl, (refl, tt)))) (machineAtStart plain x)) refl _ last,
         refl,
       )
 
   abbrev enabled : Machine
-  enabled = after (head plain) (wren 10) (machineAtStart plain f e)
+  enabled = after (head plain) (wren 10) (machineAtStart plain x)
 
   abbrev busy : Machine
   busy = after (head plain) sent enabled
 
-  pub programmed-settled : Answered programmed f e 0
+  pub programmed-settled : Answered programmed x 0
   unfolding filter keep All after playOn movedOf flashAfter eepromAfter shown shownAs goesOn
   programmed-settled =
       let last = stamp-passes (head plain) (onF 30 flash.End ∷ []) [] 30 (refl, tt) tt refl busy refl
@@ -140,7 +140,7 @@ module _ (f e : Image) where
         _,
         stamp-passes (head plain) (wren 10) (sent ++ (onF 30 flash.End ∷ [])) 10 (refl, (refl, (refl, tt)))
             (omega arith, (omega arith, (omega arith, (omega arith, (omega arith, (omega arith, (omega arith, (omega arith, tt))))))))
-            refl (machineAtStart plain f e) refl
-            (one-channel (head plain) F (wren 10) (refl, (refl, (refl, tt))) (machineAtStart plain f e)) refl _ next,
+            refl (machineAtStart plain x) refl
+            (one-channel (head plain) F (wren 10) (refl, (refl, (refl, tt))) (machineAtStart plain x)) refl _ next,
         refl,
       )

@@ -76,8 +76,7 @@ count-channels b ps m = count-total ps (said (head b) ps m) ∙ total-apart chan
 pub record SameReplay (e e′ : Ended) : Type 0 where
   pub answer : e′ .answer ≡ e .answer
   pub result : e′ .buffers .result ≡ e .buffers .result
-  pub flash : e′ .buffers .flash ≡ e .buffers .flash
-  pub eeprom : e′ .buffers .eeprom ≡ e .buffers .eeprom
+  pub images : e′ .buffers .images ≡ e .buffers .images
 
 -- ---- ps and qs are records in two allowed orders that end alike
 module _ (b : Board) (ps qs : List Record) (m : Machine) (keeps : (c : Channel) → of (head b) c qs ≡ of (head b) c ps) (alike : outcome (head b) qs m ≡ outcome (head b) ps m) where
@@ -102,8 +101,7 @@ module _ (b : Board) (ps qs : List Record) (m : Machine) (keeps : (c : Channel) 
   left-same n t = record {
     answer = refl;
     result = ap (resultBytes n t) count-same;
-    flash = ap (λ (s : Machine). s .flash) state-same;
-    eeprom = ap (λ (s : Machine). s .eeprom) state-same;
+    images = ap (λ (s : Machine). s .images) state-same;
   }
 
 -- ---- what an answer shows of rs and of ls
@@ -164,8 +162,7 @@ module _ {text : List ℕ} {x : Buffers} {e e′ : Ended} {b : Board} {rs ls : L
   refused-same k = record {
     answer = ap (λ (w : Ended). w .answer) (sym k);
     result = ap (λ (w : Ended). w .buffers .result) (sym k);
-    flash = ap (λ (w : Ended). w .buffers .flash) (sym k);
-    eeprom = ap (λ (w : Ended). w .buffers .eeprom) (sym k);
+    images = ap (λ (w : Ended). w .buffers .images) (sym k);
   }
 
   played-same : fit x ≡ true → ltb textLimit (length text) ≡ false → SameReplay e e′

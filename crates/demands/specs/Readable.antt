@@ -7,7 +7,7 @@ use Rattle.meaning.specs.Lists.{All}
 use Rattle.meaning.specs.Meaning as meaning
 use Rattle.record.specs.declared.Board.{Board}
 use Rattle.record.specs.declared.Record.{Record}
-use Rattle.image.specs.Image.{Image}
+use Rattle.image.specs.Images.{Images}
 use Rattle.field.specs.Decimal.{largest}
 use Rattle.machine.specs.Machine.{machineAtStart, head}
 use Rattle.text.specs.Texts.{AllOk, Readable}
@@ -21,5 +21,5 @@ unfolding AllOk All
 stamps-fit [] h = tt
 stamps-fit (r ∷ rs) h = (h .0 .0, stamps-fit rs (h .1))
 
-pub status-known : (b : Board) (f e : Image) → head b .lost (machineAtStart b f e) ≡ false
-status-known b f e = refl
+pub status-known : (b : Board) (x : Images) → head b .lost (machineAtStart b x) ≡ false
+status-known b x = refl

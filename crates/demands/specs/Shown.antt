@@ -55,8 +55,7 @@ unfoldable pub leftBy : Board → ℕ → ℕ → List Record → Machine → En
 leftBy b n t ps m =
     endedAs n
     (record {
-      flash = after (head b) ps m .flash;
-      eeprom = after (head b) ps m .eeprom;
+      images = after (head b) ps m .images;
       replies = padded (replyLines ps (said (head b) ps m));
       result = resultBytes n t (countTwos ps (said (head b) ps m));
     })
@@ -68,7 +67,7 @@ left-shown b rs back m z h =
     let k = means-lines b rs back m z h in
     let ps = recordsOf b z rs in
     shown-is b rs z
-    ∙ ap₂ (λ (s : Machine) (ys : List Reply). endedAs (numberOf z) (record { flash = s .flash; eeprom = s .eeprom; replies = padded (replyLines ps ys); result = resultBytes (numberOf z) (stampOf z) (countTwos ps ys) })) (k .0) (k .1)
+    ∙ ap₂ (λ (s : Machine) (ys : List Reply). endedAs (numberOf z) (record { images = s .images; replies = padded (replyLines ps ys); result = resultBytes (numberOf z) (stampOf z) (countTwos ps ys) })) (k .0) (k .1)
 
 -- the same of the call
 pub call-left : {text : List ℕ} {x : Buffers} {e : Ended} {b : Board} {rs : List Record} → Replays text x e → fit x ≡ true → ltb textLimit (length text) ≡ false → Readable text b rs →

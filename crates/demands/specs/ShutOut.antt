@@ -14,7 +14,9 @@ use Rattle.record.specs.declared.Record.{Record}
 use Rattle.record.specs.declared.FlashEvent.the-variants as flash
 use Rattle.cell.specs.Rules.{erasedCell, storedCell}
 use Rattle.cell.specs.declared.Cell.{Cell}
+use Rattle.image.specs.declared.view.Chip.{Chip}
 use Rattle.image.specs.Image.{Image, cellAt}
+use Rattle.image.specs.Images.{Images, keptBytes}
 use Rattle.image.proofs.Bench.{programmed-image}
 use Rattle.line.specs.Boards.{BoardOk}
 use Rattle.board.specs.Play.{movedOf}
@@ -40,7 +42,7 @@ Keeps f = (text : List ℕ) (x : Buffers) → Replays text x (f text x)
 -- ---- what such an f does, on any buffers that fit
 module _ (f : List ℕ → Buffers → Ended) (keeps : Keeps f) (x : Buffers) (h : fit x ≡ true) where
   -- a short text has the answer that the demand admits
-  answers : (rs : List Record) → Written plain rs → (n : ℕ) → Answered rs (x .flash) (x .eeprom) n → f (spelledTrace plain rs) x .answer ≡ n
+  answers : (rs : List Record) → Written plain rs → (n : ℕ) → Answered rs (x .images) n → f (spelledTrace plain rs) x .answer ≡ n
   answers rs w n z = ap (λ (e : Ended). e .answer) (means-shown (keeps (spelledTrace plain rs) x) h (w .short) (w .reads) (z .0) (z .1)) ∙ z .2
 
   -- the line of a board alone is settled, whatever the board and the images
@@ -49,29 +51,29 @@ module _ (f : List ℕ → Buffers → Ended) (keeps : Keeps f) (x : Buffers) (h
   board-settles b k =
       let w = board-written b k in
       ap (λ (e : Ended). e .answer)
-      (means-shown (keeps (spelledTrace b []) x) h (w .short) (w .reads) _ (means-end (head b) (startWith b x) (status-known b (x .flash) (x .eeprom))))
+      (means-shown (keeps (spelledTrace b []) x) h (w .short) (w .reads) _ (means-end (head b) (startWith b x) (status-known b (x .images))))
 
   -- and so is the listing's text, whatever byte was recorded for the status
   pub listing-settles : (so : ℕ) → so < 256 → f (spelledTrace plain (listing so)) x .answer ≡ 0
-  listing-settles so k = answers (listing so) (listing-written so k) 0 (listing-settled (x .flash) (x .eeprom) so)
+  listing-settles so k = answers (listing so) (listing-written so k) 0 (listing-settled (x .images) so)
 
   -- case 11 is settled, and case 12 is refusal 7
   pub tied-settles : f (spelledTrace plain wrenOff) x .answer ≡ 0
-  tied-settles = answers wrenOff wrenOff-written 0 (case11 (x .flash) (x .eeprom))
+  tied-settles = answers wrenOff wrenOff-written 0 (case11 (x .images))
 
   pub tied-differs : f (spelledTrace plain programOff) x .answer ≡ 7
-  tied-differs = answers programOff programOff-written 7 (case12 (x .flash) (x .eeprom))
+  tied-differs = answers programOff programOff-written 7 (case12 (x .images))
 
   -- case 1: a place that was ff/00 is a5/00 after it
   pub program-settles : f (spelledTrace plain programmed) x .answer ≡ 0
-  program-settles = answers programmed programmed-written 0 (programmed-settled (x .flash) (x .eeprom))
+  program-settles = answers programmed programmed-written 0 (programmed-settled (x .images))
 
-  pub image-changes : cellAt (x .flash) 0 ≡ erasedCell → cellAt (f (spelledTrace plain programmed) x .buffers .flash) 0 ≡ storedCell 0xa5
+  pub image-changes : cellAt (x .images .flash) 0 ≡ erasedCell → cellAt (f (spelledTrace plain programmed) x .buffers .images .flash) 0 ≡ storedCell 0xa5
   unfolding after playOn movedOf flashAfter eepromAfter
   image-changes k =
-      ap (λ (i : Image). cellAt i 0)
-      (settled-shows (keeps (spelledTrace plain programmed) x) h (programmed-written .short) (programmed-written .reads) program-settles programmed (itself (head plain) programmed (readable-back (programmed-written .reads))) .flash)
-      ∙ programmed-image (x .flash) 0 0 _ (fit-says x h .flash-fits) (omega arith) (omega arith) k refl
+      ap (λ (i : Images). cellAt (i .flash) 0)
+      (settled-shows (keeps (spelledTrace plain programmed) x) h (programmed-written .short) (programmed-written .reads) program-settles programmed (itself (head plain) programmed (readable-back (programmed-written .reads))) .images)
+      ∙ programmed-image (x .images .flash) (keptBytes Chip.Flash) 0 0 _ (fit-says x h .kept Chip.Flash) (omega arith) (omega arith) k refl
 
   -- its last record, `end` at the third stamp, has the reply bytes 6, 0, 0, 0: the cycle ends
   pub last-stamp-played : take 4 (drop 40 (f (spelledTrace plain programmed) x .buffers .replies)) ≡ 6 ∷ 0 ∷ 0 ∷ 0 ∷ []
@@ -115,7 +117,7 @@ module _ (f : List ℕ → Buffers → Ended) (keeps : Keeps f) where
       omega (arith, tied-settles f keeps undumped undumped-fits)
 
   -- it leaves the flash image alone
-  pub leaves-the-images : OnReadable f (λ b rs x e. e .buffers .flash ≡ x .flash) → ⊥
+  pub leaves-the-images : OnReadable f (λ b rs x e. e .buffers .images .flash ≡ x .images .flash) → ⊥
   leaves-the-images w =
       let k = w plain programmed blankFlash programmed-written blankFlash-fits in
       let v = ap (λ (c : Cell). c .value) (sym blankFlash-erased ∙ sym (ap (λ (i : Image). cellAt i 0) k) ∙ image-changes f keeps blankFlash blankFlash-fits blankFlash-erased) in

@@ -37,8 +37,7 @@ pub record StopsAt (e : Ended) (n : Reason) (t : ℕ) : Type 0 where
 
 -- The buffers hold how the order o of the records rs, played from s, ends: both images with their masks; for each record of rs, in the order of the lines, the four bytes of the reply that it has in o, and 0 behind; and the answer, the number t and how many of these replies disagree.
 pub record Shows (b : Board) (t : ℕ) (rs o : List Record) (s : Machine) (e : Ended) : Type 0 where
-  pub flash : e .buffers .flash ≡ after (head b) o s .flash
-  pub eeprom : e .buffers .eeprom ≡ after (head b) o s .eeprom
+  pub images : e .buffers .images ≡ after (head b) o s .images
   pub replies : e .buffers .replies ≡ padded (replyLines rs (shownAt (head b) rs (outcome (head b) o s)))
   pub result : e .buffers .result ≡ resultBytes (e .answer) t (countTwos rs (shownAt (head b) rs (outcome (head b) o s)))
 
@@ -64,8 +63,7 @@ unfolding shownAs
 shown-shows b n t rs o s v e h q =
     let k : e ≡ shownAs b n t rs (outcome (head b) o s) = q ∙ ap (shownAs b n t rs) (sym h) in
     record {
-      flash = ap (λ (y : Ended). y .buffers .flash) k;
-      eeprom = ap (λ (y : Ended). y .buffers .eeprom) k;
+      images = ap (λ (y : Ended). y .buffers .images) k;
       replies = ap (λ (y : Ended). y .buffers .replies) k;
       result = ap (λ (y : Ended). y .buffers .result) k ∙ ap (λ (a : ℕ). resultBytes a t (countTwos rs (shownAt (head b) rs (outcome (head b) o s)))) (sym (ap (λ (y : Ended). y .answer) k));
     }
@@ -113,7 +111,7 @@ module _ {text : List ℕ} {x : Buffers} {e : Ended} {b : Board} {rs : List Reco
 
   fitting : (k : Reason) (u : ℕ) (v : Outcome Machine Reply) → answered .0 ≡ meaning.stopped k u v → u ≤ largest
   fitting k u v h =
-      stamp-fits b u rs (stamps-fit rs (q .fits)) (answers.stop-stamped (head b) rs start (answered .0) (answered .1) (status-known b (x .flash) (x .eeprom)) k u v h)
+      stamp-fits b u rs (stamps-fit rs (q .fits)) (answers.stop-stamped (head b) rs start (answered .0) (answered .1) (status-known b (x .images)) k u v h)
 
   -- it stops at t with the reason n exactly when t is the earliest stamp with a reason, and n the first that holds there
   pub stops-earliest : (n : Reason) (t : ℕ) → StopsAt e n t ↔ Earliest (head b) rs start n t

@@ -23,6 +23,7 @@ use Rattle.eeprom.specs.Same as eeprom-same
 use Rattle.eeprom.proofs.ByNumbers as eeprom-equal
 use Rattle.board.specs.declared.Controls.{Controls}
 use Rattle.image.specs.Image.{Image}
+use Rattle.image.specs.Images.{Images}
 use Rattle.machine.specs.Machine.{Machine}
 
 -- it can be told whether P holds
@@ -100,11 +101,15 @@ image a b =
     same (both (bytes (a .values) (b .values)) (bytes (a .masks) (b .masks))) (λ p i. record { values = p .0 i; masks = p .1 i })
     (λ e. (ap (λ (k : Image). k .values) e, ap (λ (k : Image). k .masks) e))
 
+images : (a b : Images) → Tells (a ≡ b)
+images a b =
+    same (both (image (a .flash) (b .flash)) (image (a .eeprom) (b .eeprom))) (λ p i. record { flash = p .0 i; eeprom = p .1 i })
+    (λ e. (ap (λ (k : Images). k .flash) e, ap (λ (k : Images). k .eeprom) e))
+
 machine : (a b : Machine) → Tells (a ≡ b)
 machine a b =
-    same (both (controls (a .controls) (b .controls)) (both (image (a .flash) (b .flash)) (image (a .eeprom) (b .eeprom))))
-    (λ p i. record { controls = p .0 i; flash = p .1 .0 i; eeprom = p .1 .1 i })
-    (λ e. (ap (λ (k : Machine). k .controls) e, (ap (λ (k : Machine). k .flash) e, ap (λ (k : Machine). k .eeprom) e)))
+    same (both (controls (a .controls) (b .controls)) (images (a .images) (b .images))) (λ p i. record { controls = p .0 i; images = p .1 i })
+    (λ e. (ap (λ (k : Machine). k .controls) e, ap (λ (k : Machine). k .images) e))
 
 -- ---- a reply, by its kind, its value and its mask
 abbrev replyOf : ℕ → ℕ → ℕ → Reply

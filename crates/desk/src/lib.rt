@@ -3,7 +3,7 @@
 ghost use mathlib.Core.Path.{_≡_};
 ghost use Prim.Native.Nat.{_+_, _≤_, min};
 ghost use lib.ListN.{length, take, replicate};
-ghost use Rattle.image.specs.Image.{imageOf};
+ghost use Rattle.image.specs.Images.{imagesOf, perChip};
 ghost use Rattle.image.specs.View.{viewPlace, viewLength};
 ghost use Rattle.buffers.specs.Buffers.{buffersOf, repliesLength, resultAfter};
 ghost use Rattle.record.specs.Answers.{answerNumber};
@@ -49,8 +49,8 @@ fn play_one(
     replies: &mut [u8],
 ) -> Stepped
     requires { ⌜ count ≤ 1000000 ⌝ }
-    ensures { λ r. ⌜ deskOf (r .controls) (imageOf (now (flash .exit)) (now («flash_mask» .exit))) (imageOf (now (eeprom .exit)) (now («eeprom_mask» .exit))) (now (replies .exit)) (number + 1) (r .count)
-        ≡ stepDesk board (deskOf controls (imageOf (now (flash .entry)) (now («flash_mask» .entry))) (imageOf (now (eeprom .entry)) (now («eeprom_mask» .entry))) (now (replies .entry)) number count) rec ⌝ }
+    ensures { λ r. ⌜ deskOf (r .controls) (imagesOf (now (flash .exit)) (now («flash_mask» .exit)) (now (eeprom .exit)) (now («eeprom_mask» .exit))) (now (replies .exit)) (number + 1) (r .count)
+        ≡ stepDesk board (deskOf controls (imagesOf (now (flash .entry)) (now («flash_mask» .entry)) (now (eeprom .entry)) (now («eeprom_mask» .entry))) (now (replies .entry)) number count) rec ⌝ }
     ensures { λ r. ⌜ r .count ≤ count + 1 ⌝ }
 {
     let played = machine::play(board, controls, rec, flash, flash_mask, eeprom, eeprom_mask);
@@ -86,8 +86,8 @@ fn play_all(
     replies: &mut [u8],
 ) -> Done
     requires { ⌜ (many ≤ 18) × (count ≤ 500000) × (number ≤ 500000) ⌝ }
-    ensures { λ r. ⌜ deskOf (r .controls) (imageOf (now (flash .exit)) (now («flash_mask» .exit))) (imageOf (now (eeprom .exit)) (now («eeprom_mask» .exit))) (now (replies .exit)) (r .number) (r .count)
-        ≡ runDesk board (take many records) (deskOf controls (imageOf (now (flash .entry)) (now («flash_mask» .entry))) (imageOf (now (eeprom .entry)) (now («eeprom_mask» .entry))) (now (replies .entry)) number count) ⌝ }
+    ensures { λ r. ⌜ deskOf (r .controls) (imagesOf (now (flash .exit)) (now («flash_mask» .exit)) (now (eeprom .exit)) (now («eeprom_mask» .exit))) (now (replies .exit)) (r .number) (r .count)
+        ≡ runDesk board (take many records) (deskOf controls (imagesOf (now (flash .entry)) (now («flash_mask» .entry)) (now (eeprom .entry)) (now («eeprom_mask» .entry))) (now (replies .entry)) number count) ⌝ }
     ensures { λ r. ⌜ (r .number ≤ number + 18) × (r .count ≤ count + 18) ⌝ }
 {
     let mut cur = controls;
@@ -166,8 +166,8 @@ fn run(
     replies: &mut [u8],
 ) -> End
     requires { ⌜ length (now text) ≤ 65536 ⌝ }
-    ensures { λ r. ⌜ Runs (now (text .entry)) first board (imageOf (now (flash .entry)) (now («flash_mask» .entry))) (imageOf (now (eeprom .entry)) (now («eeprom_mask» .entry))) (now (replies .entry))
-        (endedWith (r .answer) (r .stamp) (r .count) (imageOf (now (flash .exit)) (now («flash_mask» .exit))) (imageOf (now (eeprom .exit)) (now («eeprom_mask» .exit))) (now (replies .exit))) ⌝ }
+    ensures { λ r. ⌜ Runs (now (text .entry)) first board (imagesOf (now (flash .entry)) (now («flash_mask» .entry)) (now (eeprom .entry)) (now («eeprom_mask» .entry))) (now (replies .entry))
+        (endedWith (r .answer) (r .stamp) (r .count) (imagesOf (now (flash .exit)) (now («flash_mask» .exit)) (now (eeprom .exit)) (now («eeprom_mask» .exit))) (now (replies .exit))) ⌝ }
 {
     let mut cur = Controls::start(board);
     let mut place = first;
@@ -232,7 +232,7 @@ fn replay(
     result: &mut [u8],
 ) -> u32
     requires { ⌜ (length (now text) ≤ 65536) × (length (now replies) ≡ 40000) × (length (now result) ≡ 12) ⌝ }
-    ensures { λ r. ⌜ Runs (now (text .entry)) first board (imageOf (now (flash .entry)) (now («flash_mask» .entry))) (imageOf (now (eeprom .entry)) (now («eeprom_mask» .entry))) (replicate repliesLength 0)
+    ensures { λ r. ⌜ Runs (now (text .entry)) first board (imagesOf (now (flash .entry)) (now («flash_mask» .entry)) (now (eeprom .entry)) (now («eeprom_mask» .entry))) (replicate repliesLength 0)
         (endedAs r (buffersOf (now (flash .exit)) (now («flash_mask» .exit)) (now (eeprom .exit)) (now («eeprom_mask» .exit)) (now (replies .exit)) (now (result .exit)))) ⌝ }
 {
     buffers::clear_replies(replies);
@@ -308,7 +308,7 @@ pub extern "C" fn hazelcrook_page_place(
     chip: u32,
     number: usize,
 ) -> usize
-    ensures { λ r. ⌜ r ≡ viewPlace flash eeprom (chipOf chip) number ⌝ }
+    ensures { λ r. ⌜ r ≡ viewPlace (perChip flash eeprom) (chipOf chip) number ⌝ }
 {
     image::view::view_place(flash, eeprom, chip_of(chip), number)
 }
@@ -321,7 +321,7 @@ pub extern "C" fn hazelcrook_page_length(
     chip: u32,
     number: usize,
 ) -> usize
-    ensures { λ r. ⌜ r ≡ viewLength flash eeprom (chipOf chip) number ⌝ }
+    ensures { λ r. ⌜ r ≡ viewLength (perChip flash eeprom) (chipOf chip) number ⌝ }
 {
     image::view::view_length(flash, eeprom, chip_of(chip), number)
 }

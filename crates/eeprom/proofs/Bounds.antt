@@ -17,7 +17,7 @@ use Rattle.record.specs.declared.EepromEvent.the-variants.{Start, Byte, Cut, St
 use Rattle.record.specs.declared.LineEvent.{LineEvent}
 use Rattle.record.specs.declared.LineEvent.the-variants.{SupplyOn, SupplyOff, LockOn, LockOff}
 use Rattle.record.specs.declared.Lines.{Lines}
-use Rattle.eeprom.specs.Chip.{blank, runningOf, inFrame, answered, silentIn, placeOf}
+use Rattle.eeprom.specs.Chip.{blank, runningOf, inFrame, answered, silentIn, placeOf, chipSize}
 use Rattle.eeprom.specs.Write.{nextInPage, counted, firstSent, sentBy, isSent}
 use Rattle.eeprom.specs.Frame.{ownAddress, openedBy, addressOf, movedOn, afterRead, dataByte, byteIn}
 use Rattle.eeprom.specs.Step.{writeEnds, stopIn, endOf, poweredOf, unpoweredOf, stepOf, voidedBy, offOf}
@@ -124,7 +124,7 @@ is-next a k h l = omega arith
 full : (k : ℕ) → k ≤ 64 → 63 ≤ k → 64 ≤ counted k
 full k h m = split (ltb k 64) (λ t. let l = ltb-true k 64 t in simp (t) (omega arith)) (λ t. simp (t) (omega arith))
 
-module _ (k p b : ℕ) (page : List ℕ) (small : k ≤ 64) (inside : p < 32768) where
+module _ (k p b : ℕ) (page : List ℕ) (small : k ≤ 64) (inside : p < chipSize) where
   -- a place that is not sent after a byte was not sent before it, and is not the byte's
   before : (q : ℕ) → q < 64 → isSent (sentBy (nextInPage p) (counted k)) q ≡ false → (isSent (sentBy p k) q ≡ false) × (q ≡ p % 64 → ⊥)
   before q l e =
@@ -161,7 +161,7 @@ moved-good : (n : EepromCounter) → CounterGood n → CounterGood (movedOn n)
 moved-good Lost h = tt
 moved-good (At p) h = let l = rolled-small 32767 p (omega arith) in omega arith
 
-address-small : (h b : ℕ) → addressOf h b < 32768
+address-small : (h b : ℕ) → addressOf h b < chipSize
 address-small h b = omega arith
 
 half-small : (b : ℕ) → b % 128 < 128
@@ -193,7 +193,7 @@ byte-good Reading None n p b bit w h =
 byte-good Reading (Write s) n p b bit w h = absurd (h .in-frame)
 
 -- ---- `sto`
-sent-good : (p k : ℕ) → p < 32768 → k ≤ 64 → (k ≡ 0 → ⊥) → SentGood (sentBy p k) p
+sent-good : (p k : ℕ) → p < chipSize → k ≤ 64 → (k ≡ 0 → ⊥) → SentGood (sentBy p k) p
 sent-good p k h l z =
     record {
       in-chip = omega arith;

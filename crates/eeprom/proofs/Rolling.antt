@@ -7,6 +7,7 @@ use lib.Dec.{ltb}
 use borrow.Author.Tests.{ltb-true, ltb-false, lt-ltb, le-ltb}
 use Rattle.law.specs.Choice.{split}
 use Rattle.page.specs.Laws.{rolled-mod}
+use Rattle.eeprom.specs.Chip.{chipSize}
 use Rattle.eeprom.specs.Write.{nextInPage, counted, firstSent}
 
 -- ---- the page stays, the low six bits go on
@@ -19,7 +20,7 @@ next-page p = rw (next-is p) (omega arith)
 pub next-low : (p : ℕ) → nextInPage p % 64 ≡ (p % 64 + 1) % 64
 next-low p = rw (next-is p) (omega arith)
 
-pub next-small : (p : ℕ) → p < 32768 → nextInPage p < 32768
+pub next-small : (p : ℕ) → p < chipSize → nextInPage p < chipSize
 next-small p h = rw (next-is p) (omega arith)
 
 -- ---- the count and the first place, by cases

@@ -1,10 +1,11 @@
 -- The EEPROM's state, and what its rules share (document 01, 'EEPROM rules', 'Bytes and doubt').
-use Prim.Native.Nat.{ℕ}
+use Prim.Native.Nat.{ℕ, _-_}
 use mathlib.Core.Bool.{Bool, true, false}
 use mathlib.Core.List.{List}
 use lib.ListN.{replicate}
 use Rattle.record.specs.declared.Skeleton.{Skeleton}
 use Rattle.record.specs.declared.Skeleton.the-variants.{Silent}
+use Rattle.page.specs.Geometry.{eepromPage, eepromSize}
 use Rattle.eeprom.specs.declared.EepromFrame.{EepromFrame}
 use Rattle.eeprom.specs.declared.EepromFrame.the-variants.{Idle}
 use Rattle.eeprom.specs.declared.EepromCycle.{EepromCycle}
@@ -14,18 +15,18 @@ use Rattle.eeprom.specs.declared.EepromCounter.the-variants.{Lost, At}
 use Rattle.eeprom.specs.declared.Eeprom.{Eeprom}
 use Rattle.eeprom.specs.declared.EepromStep.{EepromStep}
 
--- 32,768 places in pages of 64
+-- the chip's page, and all its places
 abbrev pub pageSize : ℕ
-pageSize = 64
+pageSize = eepromPage
 
 abbrev pub lastInPage : ℕ
-lastInPage = 63
+lastInPage = pageSize - 1
 
 abbrev pub chipSize : ℕ
-chipSize = 32768
+chipSize = eepromSize
 
 abbrev pub lastPlace : ℕ
-lastPlace = 0x7fff
+lastPlace = chipSize - 1
 
 -- a page to which nothing was sent
 abbrev pub blank : List ℕ

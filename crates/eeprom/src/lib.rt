@@ -127,7 +127,7 @@ impl Eeprom {
     {
         let cycle = self.cycle;
         let page = self.page;
-        let address = (high as u32 * 256 + b as u32) % 32768;
+        let address = (high as u32 * 256 + b as u32) % page::EEPROM_SIZE;
         let chip = Eeprom {
             frame: EepromFrame::Taking(0),
             cycle: cycle,

@@ -7,8 +7,8 @@ use crate::Sent;
 pub(crate) fn next_in_page(place: u32) -> u32
     ensures { λ r. ⌜ r ≡ nextInPage place ⌝ }
 {
-    let low = page::rolled((place % 64) as u8, 63);
-    place / 64 * 64 + low as u32
+    let low = page::rolled((place % page::EEPROM_PAGE) as u8, 63);
+    place / page::EEPROM_PAGE * page::EEPROM_PAGE + low as u32
 }
 
 // A later byte for a place replaces the earlier.
@@ -16,7 +16,7 @@ pub(crate) fn put_byte(place: u32, b: u8, bytes: [u8; 64]) -> [u8; 64]
     ensures { λ r. ⌜ r ≡ putByte place b bytes ⌝ }
 {
     let mut next = bytes;
-    let at = (place % 64) as usize;
+    let at = (place % page::EEPROM_PAGE) as usize;
     next[at] = b;
     next
 }
@@ -25,22 +25,26 @@ pub(crate) fn put_byte(place: u32, b: u8, bytes: [u8; 64]) -> [u8; 64]
 pub(crate) fn one_more(count: u32) -> u32
     ensures { λ r. ⌜ r ≡ counted count ⌝ }
 {
-    if count < 64 { count + 1 } else { 64 }
+    if count < page::EEPROM_PAGE {
+        count + 1
+    } else {
+        page::EEPROM_PAGE
+    }
 }
 
 // The places of so many data bytes, by the next one's place.
 pub(crate) fn sent_by(next: u32, count: u32) -> Sent
     ensures { λ r. ⌜ r ≡ sentBy next count ⌝ }
 {
-    if count < 64 {
+    if count < page::EEPROM_PAGE {
         Sent {
-            page: next / 64,
-            first: (next % 64 + (64 - count)) % 64,
+            page: next / page::EEPROM_PAGE,
+            first: (next % page::EEPROM_PAGE + (page::EEPROM_PAGE - count)) % page::EEPROM_PAGE,
             count: count,
         }
     } else {
         Sent {
-            page: next / 64,
+            page: next / page::EEPROM_PAGE,
             first: 0,
             count: count,
         }

@@ -13,6 +13,7 @@ use Rattle.record.specs.declared.FlashEvent.{FlashEvent}
 use Rattle.record.specs.declared.FlashEvent.the-variants as event
 use Rattle.record.specs.declared.LineEvent.{LineEvent}
 use Rattle.record.specs.declared.LineEvent.the-variants.{SupplyOn, SupplyOff, LockOn, LockOff}
+use Rattle.page.specs.Geometry.{flashSize}
 use Rattle.flash.specs.Code.{decodeOf, sectorOf, sectorLocked, wpen, keptBits, withEnable}
 use Rattle.flash.specs.Frame.{factAt, served, opCodeSent, openedBy, countedOn, rolledOn, movedOn, withByte, nextSent, pageAfter, voidedBy, lockedFact, lockedFrame}
 use Rattle.flash.specs.Cycle.{runningOf, blank, pageIn, mayStart, lockBars, startsIf, setsIf, knownEffect, endStatus, offStatus}
@@ -37,13 +38,13 @@ use Rattle.flash.specs.declared.Effect.{Effect}
 use Rattle.flash.specs.declared.Effect.the-variants.{Nothing, Status, Start}
 
 -- ---- numbers
-counted-ok : (p : ℕ) → p < 0x20000 → countedOn p < 0x20000
+counted-ok : (p : ℕ) → p < flashSize → countedOn p < flashSize
 counted-ok p h = split (ltb p 0x1ffff) (λ t. simp (t) (omega (arith, ltb-true p 0x1ffff t))) (λ t. simp (t) (omega arith))
 
-rolled-ok : (p : ℕ) → p < 0x20000 → rolledOn p < 0x20000
+rolled-ok : (p : ℕ) → p < flashSize → rolledOn p < flashSize
 rolled-ok p h = split (ltb (p % 256) 255) (λ t. simp (t) (omega (arith, ltb-true (p % 256) 255 t))) (λ t. simp (t) (omega arith))
 
-moved-ok : (op : Op) (p : ℕ) → p < 0x20000 → movedOn op p < 0x20000
+moved-ok : (op : Op) (p : ℕ) → p < flashSize → movedOn op p < flashSize
 moved-ok WriteEnable p h = h
 moved-ok WriteDisable p h = h
 moved-ok ReadStatus p h = h
@@ -54,7 +55,7 @@ moved-ok SectorErase p h = h
 moved-ok ChipErase p h = h
 moved-ok Identify p h = h
 
-shifted-ok : (p si : ℕ) → withByte p si < 0x20000
+shifted-ok : (p si : ℕ) → withByte p si < flashSize
 shifted-ok p si = omega arith
 
 next-ok : (op : Op) (s : Sent) (si : ℕ) → SentOk s → SentOk (nextSent op s si)
@@ -81,7 +82,7 @@ kept-byte s h = omega arith
 low-byte : (p : ℕ) → p % 256 < 256
 low-byte p = omega arith
 
-page-ok : (p : ℕ) → p < 0x20000 → p / 256 < 512
+page-ok : (p : ℕ) → p < flashSize → p / 256 < 512
 page-ok p h = omega arith
 
 pub sector-ok : (p : ℕ) → (1 ≤ sectorOf p) × (sectorOf p ≤ 4)

@@ -17,6 +17,7 @@ use Rattle.record.specs.declared.LineEvent.{LineEvent}
 use Rattle.record.specs.declared.LineEvent.the-variants.{SupplyOn, SupplyOff, LockOn, LockOff}
 use Rattle.record.specs.declared.Skeleton.{Skeleton}
 use Rattle.record.specs.declared.Skeleton.the-variants.{Silent, Given, Fetch, Starts, Ends, NoCycle}
+use Rattle.page.specs.Geometry.{flashSector}
 use Rattle.flash.specs.Code.{decodeOf, sectorOf, lockedBy, sectorLocked, keptBits, withEnable}
 use Rattle.flash.specs.Frame.{served, opCodeSent, openedBy, nextSent, fetchOf, identityOf, statusReply, replyTo, pageAfter, voidedBy, lockedFrame}
 use Rattle.flash.specs.Cycle.{runningOf, blank, pageIn, mayStart, lockBars, startsIf, setsIf, knownEffect, effectOf, endStatus, offStatus}
@@ -54,8 +55,8 @@ QuietReply k = Quiet (skeletonKind k)
 
 fetch-quiet : (s : Sent) (w : ℕ) → QuietReply (fetchOf s w)
 fetch-quiet s w =
-    of-both QuietReply (ltb (s .count) 4) Silent (pick (eqb (sectorOf (s .place)) w) (Fetch (s .place % 0x8000)) Silent) tt
-    (of-both QuietReply (eqb (sectorOf (s .place)) w) (Fetch (s .place % 0x8000)) Silent tt tt)
+    of-both QuietReply (ltb (s .count) 4) Silent (pick (eqb (sectorOf (s .place)) w) (Fetch (s .place % flashSector)) Silent) tt
+    (of-both QuietReply (eqb (sectorOf (s .place)) w) (Fetch (s .place % flashSector)) Silent tt tt)
 
 identity-quiet : (n : ℕ) → QuietReply (identityOf n)
 identity-quiet n =
@@ -598,7 +599,7 @@ tells-op WriteEnable s busy st w = tells-silent Silent
 tells-op WriteDisable s busy st w = tells-silent Silent
 tells-op ReadStatus s busy st w = tells-status busy st
 tells-op WriteStatus s busy st w = tells-silent Silent
-tells-op Read s busy st w = tells-fetch (ltb (s .count) 4) (eqb (sectorOf (s .place)) w) (s .place % 0x8000)
+tells-op Read s busy st w = tells-fetch (ltb (s .count) 4) (eqb (sectorOf (s .place)) w) (s .place % flashSector)
 tells-op Program s busy st w = tells-silent Silent
 tells-op SectorErase s busy st w = tells-silent Silent
 tells-op ChipErase s busy st w = tells-silent Silent

@@ -3,6 +3,7 @@ use Prim.Native.Nat.{ℕ, _+_, _*_, _/_, _%_}
 use mathlib.Core.Bool.{Bool, true, false}
 use lib.Dec.{leb, eqb}
 use Rattle.law.specs.Choice.{pick}
+use Rattle.page.specs.Geometry.{flashSector, flashSectors}
 use Rattle.flash.specs.declared.Op.{Op}
 use Rattle.flash.specs.declared.Op.the-variants.{WriteEnable, WriteDisable, ReadStatus, WriteStatus, Read, Program, SectorErase, ChipErase, Identify}
 use Rattle.flash.specs.declared.Decoded.{Decoded}
@@ -28,7 +29,7 @@ decodeOf b = instruction (b / 16 * 16 + b % 8)
 
 -- sectors: 1 from 00000, 2 from 08000, 3 from 10000, 4 from 18000; A23 to A17 are ignored
 abbrev pub sectorOf : ℕ → ℕ
-sectorOf place = place / 0x8000 % 4 + 1
+sectorOf place = place / flashSector % flashSectors + 1
 
 -- locked out by BP1 BP0: 00 none, 01 sector 4, 10 sectors 3 and 4, 11 all
 abbrev pub lockedBy : ℕ → ℕ → Bool

@@ -5,6 +5,7 @@ use mathlib.Core.List.{List}
 use lib.ListN.{replicate}
 use lib.Dec.{leb, eqb}
 use Rattle.law.specs.Choice.{pick}
+use Rattle.page.specs.Geometry.{flashPage}
 use Rattle.flash.specs.Code.{sectorOf, sectorLocked, wpen, enabled, keptBits, withEnable}
 use Rattle.flash.specs.declared.Op.{Op}
 use Rattle.flash.specs.declared.Op.the-variants as op
@@ -27,7 +28,7 @@ runningOf (WriteStatus bits) = true
 
 -- a page to which nothing was sent: ff changes nothing at `end` and at `off`
 abbrev pub blank : List ℕ
-blank = replicate 256 255
+blank = replicate flashPage 255
 
 -- where no frame has data, only a PROGRAM cycle keeps a page
 abbrev pub pageIn : FlashCycle → List ℕ → List ℕ
@@ -64,7 +65,7 @@ knownEffect op.WriteStatus sent fact s =
     startsIf (mayStart (eqb (sent .count) 2) s (lockBars s fact)) (WriteStatus (keptBits (sent .place % 256)))
 knownEffect op.Read sent fact s = Nothing
 knownEffect op.Program sent fact s =
-    startsIf (mayStart (leb 5 (sent .count)) s (sectorLocked s (sectorOf (sent .place)))) (Program (sent .place / 256))
+    startsIf (mayStart (leb 5 (sent .count)) s (sectorLocked s (sectorOf (sent .place)))) (Program (sent .place / flashPage))
 knownEffect op.SectorErase sent fact s =
     startsIf (mayStart (eqb (sent .count) 4) s (sectorLocked s (sectorOf (sent .place)))) (SectorErase (sectorOf (sent .place)))
 knownEffect op.ChipErase sent fact s = startsIf (mayStart (eqb (sent .count) 1) s (sectorLocked s 1)) ChipErase

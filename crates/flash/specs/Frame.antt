@@ -5,6 +5,7 @@ use mathlib.Core.List.{List}
 use lib.ListN.{set}
 use lib.Dec.{ltb, eqb}
 use Rattle.law.specs.Choice.{pick}
+use Rattle.page.specs.Geometry.{flashPage, flashSector, flashSize}
 use Rattle.page.specs.Rolling.{rolledIn}
 use Rattle.record.specs.declared.Skeleton.{Skeleton}
 use Rattle.record.specs.declared.Skeleton.the-variants.{Silent, Given, Fetch}
@@ -59,7 +60,7 @@ countedOn place = pick (ltb place 0x1ffff) (place + 1) 0
 
 -- PROGRAM: the low eight address bits roll over inside the page
 abbrev pub rolledOn : ℕ → ℕ
-rolledOn place = place / 256 * 256 + rolledIn 255 (place % 256)
+rolledOn place = place / flashPage * flashPage + rolledIn 255 (place % flashPage)
 
 abbrev pub movedOn : Op → ℕ → ℕ
 movedOn WriteEnable place = place
@@ -74,7 +75,7 @@ movedOn Identify place = place
 
 -- three address bytes, high first; A23 to A17 are ignored (WRSR's one byte comes in as the first of them)
 abbrev pub withByte : ℕ → ℕ → ℕ
-withByte place si = (place % 512 * 256 + si) % 0x20000
+withByte place si = (place % 512 * 256 + si) % flashSize
 
 -- one byte more; from the fifth on only the place moves
 abbrev pub nextSent : Op → Sent → ℕ → Sent
@@ -87,7 +88,7 @@ nextSent op sent si =
 abbrev pub fetchOf : Sent → ℕ → Skeleton
 fetchOf sent watched =
     pick (ltb (sent .count) 4) Silent
-    (pick (eqb (sectorOf (sent .place)) watched) (Fetch (sent .place % 0x8000)) Silent)
+    (pick (eqb (sectorOf (sent .place)) watched) (Fetch (sent .place % flashSector)) Silent)
 
 -- RDID replies 1f, 60, then silence
 abbrev pub identityOf : ℕ → Skeleton
@@ -111,7 +112,7 @@ replyTo Identify sent busy status watched = identityOf (sent .count)
 
 -- PROGRAM: a later byte for a place replaces the earlier
 abbrev pub putByte : Sent → ℕ → List ℕ → List ℕ
-putByte sent si page = pick (ltb (sent .count) 4) page (set page (sent .place % 256) si)
+putByte sent si page = pick (ltb (sent .count) 4) page (set page (sent .place % flashPage) si)
 
 abbrev pub pageAfter : Op → Sent → ℕ → List ℕ → List ℕ
 pageAfter WriteEnable sent si page = page

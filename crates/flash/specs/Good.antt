@@ -5,6 +5,7 @@ use mathlib.Core.Path.{_≡_}
 use mathlib.Core.List.{List}
 use lib.ListN.{length}
 use Rattle.law.specs.Choice.{pick}
+use Rattle.page.specs.Geometry.{flashPage, flashSectors, flashSize}
 use Rattle.flash.specs.Code.{wpen, keptBits}
 use Rattle.flash.specs.Cycle.{blank}
 use Rattle.flash.specs.Side.{Side}
@@ -24,7 +25,7 @@ use Rattle.flash.specs.declared.FlashStatus.the-variants.{Lost, Known}
 pub record SentOk (s : Sent) : Type 0 where
   pub some : 1 ≤ s .count
   pub few : s .count ≤ 5
-  pub inside : s .place < 0x20000
+  pub inside : s .place < flashSize
 
 abbrev pub FrameOk : FlashFrame → Type 0
 FrameOk Idle = Unit {0}
@@ -45,8 +46,8 @@ StatusOk (Known s) = StatusBits s
 -- a PROGRAM is for one of 512 pages, an erase for one of four sectors; a WRSR sets bits 7, 3, 2
 abbrev pub CycleOk : FlashCycle → Type 0
 CycleOk cycle.None = Unit {0}
-CycleOk (cycle.Program n) = n < 512
-CycleOk (cycle.SectorErase n) = (1 ≤ n) × (n ≤ 4)
+CycleOk (cycle.Program n) = n < flashSize / flashPage
+CycleOk (cycle.SectorErase n) = (1 ≤ n) × (n ≤ flashSectors)
 CycleOk cycle.ChipErase = Unit {0}
 CycleOk (cycle.WriteStatus bits) = (keptBits bits ≡ bits) × (bits < 256)
 
@@ -136,7 +137,7 @@ pub record Parts (fr : FlashFrame) (c : FlashCycle) (st : FlashStatus) (page : L
   pub in-frame : FrameOk fr
   pub in-cycle : CycleOk c
   pub in-status : StatusOk st
-  pub whole : length page ≡ 256
+  pub whole : length page ≡ flashPage
   pub waits : InCycle c (Waits fr)
   pub known : InCycle c (IsKnown st)
   pub kept-page : BlankUnless (pick (writesPage c) true (sendsPage fr)) page

@@ -10,6 +10,7 @@ use Rattle.record.specs.declared.FlashEvent.the-variants as event
 use Rattle.record.specs.declared.LineEvent.{LineEvent}
 use Rattle.record.specs.declared.Skeleton.{Skeleton}
 use Rattle.record.specs.declared.Skeleton.the-variants.{Silent}
+use Rattle.page.specs.Geometry.{flashPage}
 use Rattle.flash.specs.Code.{decodeOf, sectorOf, keptBits}
 use Rattle.flash.specs.Frame.{opCodeSent, nextSent, fetchOf, pageAfter}
 use Rattle.flash.specs.Cycle.{blank}
@@ -133,7 +134,7 @@ startedBy WriteDisable sent page bits = setsStatus bits
 startedBy ReadStatus sent page bits = setsStatus bits
 startedBy WriteStatus sent page bits = setsStatus (keptBits (sent .place % 256))
 startedBy Read sent page bits = setsStatus bits
-startedBy Program sent page bits = programs (sent .place / 256) page
+startedBy Program sent page bits = programs (sent .place / flashPage) page
 startedBy SectorErase sent page bits = erases (sectorOf (sent .place))
 startedBy ChipErase sent page bits = erasesAll bits
 startedBy Identify sent page bits = setsStatus bits

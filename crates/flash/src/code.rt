@@ -27,7 +27,7 @@ pub(crate) fn decode(b: u8) -> Decoded
 pub(crate) fn sector_of(place: u32) -> u8
     ensures { λ r. ⌜ r ≡ sectorOf place ⌝ }
 {
-    (place / 0x8000 % 4 + 1) as u8
+    (place / page::FLASH_SECTOR % page::FLASH_SECTORS + 1) as u8
 }
 
 // Bits 7, 3 and 2 of a byte: what WRSR sets, and what a status keeps when write enable goes off.

@@ -98,7 +98,7 @@ fn known_effect(op: Op, sent: Sent, fact: LockFact, s: u8) -> Effect
         Op::Read => Effect::Nothing,
         Op::Program => {
             let may = may_start(5 <= count, s, locked);
-            start_if(may, FlashCycle::Program(place / 256))
+            start_if(may, FlashCycle::Program(place / page::FLASH_PAGE))
         }
         Op::SectorErase => {
             let may = may_start(count == 4, s, locked);

@@ -76,7 +76,8 @@ fn moved_on(op: Op, place: u32) -> u32
         Op::ReadStatus => place,
         Op::WriteStatus => place,
         Op::Read => { if place < 0x1ffff { place + 1 } else { 0 } }
-        Op::Program => place / 256 * 256 + page::rolled((place % 256) as u8, 255) as u32,
+        Op::Program => place / page::FLASH_PAGE * page::FLASH_PAGE
+            + page::rolled((place % page::FLASH_PAGE) as u8, 255) as u32,
         Op::SectorErase => place,
         Op::ChipErase => place,
         Op::Identify => place,
@@ -92,7 +93,7 @@ pub(crate) fn next_sent(op: Op, sent: Sent, si: u8) -> Sent
     if count < 4 {
         Sent {
             count: count + 1,
-            place: (place % 512 * 256 + si as u32) % 0x20000,
+            place: (place % 512 * 256 + si as u32) % page::FLASH_SIZE,
         }
     } else {
         Sent {
@@ -111,7 +112,7 @@ fn fetch(sent: Sent, watched: u8) -> Skeleton
         return Skeleton::Silent;
     }
     if code::sector_of(place) == watched {
-        Skeleton::Fetch(place % 0x8000)
+        Skeleton::Fetch(place % page::FLASH_SECTOR)
     } else {
         Skeleton::Silent
     }
@@ -163,7 +164,7 @@ fn put_byte(sent: Sent, si: u8, page: [u8; 256]) -> [u8; 256]
     if sent.count < 4 {
         return next;
     }
-    let at = (sent.place % 256) as usize;
+    let at = (sent.place % page::FLASH_PAGE) as usize;
     next[at] = si;
     next
 }

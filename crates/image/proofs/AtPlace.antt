@@ -2,107 +2,109 @@
 use mathlib.Core.Path.{_≡_, ap, _∙_}
 use mathlib.Core.Bool.{true, false}
 use mathlib.Core.List.{List}
-use Prim.Native.Nat.{ℕ, _+_, _*_, _%_, _≤_, _<_}
+use Prim.Native.Nat.{ℕ, _+_, _*_, _/_, _%_, _≤_, _<_}
 use native.Mathlib.Omega.{arith}
 use borrow.Author.Tests.{lt-ltb, le-ltb}
 use lib.ListN.{length, getD, replicate, getD-replicate}
 use Rattle.law.specs.Choice.{pick}
 use Rattle.cell.specs.Rules.{erasedCell, doubtfulCell, storedCell, programmedCell, cutCell, ByteCell}
 use Rattle.cell.proofs.Neutral.{programmed-ff, cut-ff}
+use Rattle.page.specs.Geometry.{flashPage, eepromPage}
 use Rattle.page.specs.Rolling.{sentPlace, roll}
 use Rattle.page.specs.Laws.{roll-unsent}
-use Rattle.image.specs.Image.{Image, keptBytes, fits, cellAt}
+use Rattle.image.specs.Image.{Image, sizeOf, spans, cellAt}
 use Rattle.image.specs.Cycles.{programPage, cutProgramPage, eraseAll, cutEraseAll, storePage, cutStorePage, isSent}
 use Rattle.image.proofs.Reading.{on-at, page-at-place, page-same, page-keeping}
 use Rattle.image.proofs.Fitting.{page-none}
 
-module _ (i : Image) (t : fits i ≡ true) where
-  pub eraseAll-at : (k : ℕ) → k < keptBytes → cellAt (eraseAll i) k ≡ erasedCell
+-- an image of n bytes
+module _ (i : Image) (n : ℕ) (t : spans n i ≡ true) where
+  pub eraseAll-at : (k : ℕ) → k < n → cellAt (eraseAll i) k ≡ erasedCell
   unfolding eraseAll
-  eraseAll-at = on-at (λ k c. erasedCell) i t
+  eraseAll-at = on-at (λ k c. erasedCell) i n t
 
-  pub cutEraseAll-at : (k : ℕ) → k < keptBytes → cellAt (cutEraseAll i) k ≡ doubtfulCell
+  pub cutEraseAll-at : (k : ℕ) → k < n → cellAt (cutEraseAll i) k ≡ doubtfulCell
   unfolding cutEraseAll
-  cutEraseAll-at = on-at (λ k c. doubtfulCell) i t
+  cutEraseAll-at = on-at (λ k c. doubtfulCell) i n t
 
-  module _ (number : ℕ) (bytes : List ℕ) (h : number < 128) (q : ℕ) (l : q < 256) where
-    pub programPage-at : cellAt (programPage number bytes i) (256 * number + q) ≡ programmedCell (cellAt i (256 * number + q)) (getD bytes q 0)
+  module _ (number : ℕ) (bytes : List ℕ) (h : number < n / flashPage) (q : ℕ) (l : q < flashPage) where
+    pub programPage-at : cellAt (programPage number bytes i) (flashPage * number + q) ≡ programmedCell (cellAt i (flashPage * number + q)) (getD bytes q 0)
     unfolding programPage
-    programPage-at = page-at-place 256 number (λ j c. programmedCell c (getD bytes j 0)) i t h q l
+    programPage-at = page-at-place flashPage number (λ j c. programmedCell c (getD bytes j 0)) i n t h q l
 
-    pub cutProgramPage-at : cellAt (cutProgramPage number bytes i) (256 * number + q) ≡ cutCell (cellAt i (256 * number + q)) (getD bytes q 0)
+    pub cutProgramPage-at : cellAt (cutProgramPage number bytes i) (flashPage * number + q) ≡ cutCell (cellAt i (flashPage * number + q)) (getD bytes q 0)
     unfolding cutProgramPage
-    cutProgramPage-at = page-at-place 256 number (λ j c. cutCell c (getD bytes j 0)) i t h q l
+    cutProgramPage-at = page-at-place flashPage number (λ j c. cutCell c (getD bytes j 0)) i n t h q l
 
-  module _ (number first count : ℕ) (bytes : List ℕ) (h : number < 512) (f : first < 64) (q : ℕ) (l : q < 64) (w : sentPlace 64 first count q ≡ true) where
-    pub storePage-at : cellAt (storePage number first count bytes i) (64 * number + q) ≡ storedCell (getD bytes q 0)
+  module _ (number first count : ℕ) (bytes : List ℕ) (h : number < n / eepromPage) (f : first < eepromPage) (q : ℕ) (l : q < eepromPage) (w : sentPlace eepromPage first count q ≡ true) where
+    pub storePage-at : cellAt (storePage number first count bytes i) (eepromPage * number + q) ≡ storedCell (getD bytes q 0)
     unfolding storePage
     storePage-at =
-        page-at-place 64 number (λ j c. pick (isSent first count j) (storedCell (getD bytes j 0)) c) i t h q l ∙ simp (lt-ltb _ _ f, w)
+        page-at-place eepromPage number (λ j c. pick (isSent first count j) (storedCell (getD bytes j 0)) c) i n t h q l ∙ simp (lt-ltb _ _ f, w)
 
-    pub cutStorePage-at : cellAt (cutStorePage number first count i) (64 * number + q) ≡ doubtfulCell
+    pub cutStorePage-at : cellAt (cutStorePage number first count i) (eepromPage * number + q) ≡ doubtfulCell
     unfolding cutStorePage
-    cutStorePage-at = page-at-place 64 number (λ j c. pick (isSent first count j) doubtfulCell c) i t h q l ∙ simp (lt-ltb _ _ f, w)
+    cutStorePage-at = page-at-place eepromPage number (λ j c. pick (isSent first count j) doubtfulCell c) i n t h q l ∙ simp (lt-ltb _ _ f, w)
 
 -- a place that was not sent is as it was
-module _ (number first count : ℕ) (bytes : List ℕ) (i : Image) (k : ℕ) (u : isSent first count (k % 64) ≡ false) where
+module _ (number first count : ℕ) (bytes : List ℕ) (i : Image) (k : ℕ) (u : isSent first count (k % eepromPage) ≡ false) where
   pub storePage-unsent : cellAt (storePage number first count bytes i) k ≡ cellAt i k
   unfolding storePage
-  storePage-unsent = page-same 64 number (λ q c. pick (isSent first count q) (storedCell (getD bytes q 0)) c) i k (simp u)
+  storePage-unsent = page-same eepromPage number (λ q c. pick (isSent first count q) (storedCell (getD bytes q 0)) c) i k (simp u)
 
   pub cutStorePage-unsent : cellAt (cutStorePage number first count i) k ≡ cellAt i k
   unfolding cutStorePage
-  cutStorePage-unsent = page-same 64 number (λ q c. pick (isSent first count q) doubtfulCell c) i k (simp u)
+  cutStorePage-unsent = page-same eepromPage number (λ q c. pick (isSent first count q) doubtfulCell c) i k (simp u)
 
 -- ff changes nothing
-module _ (number : ℕ) (bytes : List ℕ) (i : Image) (k : ℕ) (b : ByteCell (cellAt i k)) (u : getD bytes (k % 256) 0 ≡ 255) where
+module _ (number : ℕ) (bytes : List ℕ) (i : Image) (k : ℕ) (b : ByteCell (cellAt i k)) (u : getD bytes (k % flashPage) 0 ≡ 255) where
   pub programPage-ff : cellAt (programPage number bytes i) k ≡ cellAt i k
   unfolding programPage
   programPage-ff =
-      page-same 256 number (λ q c. programmedCell c (getD bytes q 0)) i k
+      page-same flashPage number (λ q c. programmedCell c (getD bytes q 0)) i k
       (ap (programmedCell (cellAt i k)) u ∙ programmed-ff (cellAt i k) b)
 
   pub cutProgramPage-ff : cellAt (cutProgramPage number bytes i) k ≡ cellAt i k
   unfolding cutProgramPage
   cutProgramPage-ff =
-      page-same 256 number (λ q c. cutCell c (getD bytes q 0)) i k (ap (cutCell (cellAt i k)) u ∙ cut-ff (cellAt i k) b)
+      page-same flashPage number (λ q c. cutCell c (getD bytes q 0)) i k (ap (cutCell (cellAt i k)) u ∙ cut-ff (cellAt i k) b)
 
 -- so of the bytes ds, sent from place first on into a page of ff, only the places sent change
-module _ (number first : ℕ) (ds : List ℕ) (i : Image) (k : ℕ) (b : ByteCell (cellAt i k)) (f : first < 256)
-    (u : sentPlace 256 first (length ds) (k % 256) ≡ false) where
-  unsent-ff : getD (roll 256 first ds (replicate 256 255)) (k % 256) 0 ≡ 255
-  unsent-ff = roll-unsent 256 first ds (replicate 256 255) (k % 256) f u ∙ getD-replicate {A = ℕ} 256 (k % 256) 255 0 (omega arith)
+module _ (number first : ℕ) (ds : List ℕ) (i : Image) (k : ℕ) (b : ByteCell (cellAt i k)) (f : first < flashPage)
+    (u : sentPlace flashPage first (length ds) (k % flashPage) ≡ false) where
+  unsent-ff : getD (roll flashPage first ds (replicate flashPage 255)) (k % flashPage) 0 ≡ 255
+  unsent-ff = roll-unsent flashPage first ds (replicate flashPage 255) (k % flashPage) f u ∙ getD-replicate {A = ℕ} flashPage (k % flashPage) 255 0 (omega arith)
 
-  pub programPage-unsent : cellAt (programPage number (roll 256 first ds (replicate 256 255)) i) k ≡ cellAt i k
-  programPage-unsent = programPage-ff number (roll 256 first ds (replicate 256 255)) i k b unsent-ff
+  pub programPage-unsent : cellAt (programPage number (roll flashPage first ds (replicate flashPage 255)) i) k ≡ cellAt i k
+  programPage-unsent = programPage-ff number (roll flashPage first ds (replicate flashPage 255)) i k b unsent-ff
 
-  pub cutProgramPage-unsent : cellAt (cutProgramPage number (roll 256 first ds (replicate 256 255)) i) k ≡ cellAt i k
-  cutProgramPage-unsent = cutProgramPage-ff number (roll 256 first ds (replicate 256 255)) i k b unsent-ff
+  pub cutProgramPage-unsent : cellAt (cutProgramPage number (roll flashPage first ds (replicate flashPage 255)) i) k ≡ cellAt i k
+  cutProgramPage-unsent = cutProgramPage-ff number (roll flashPage first ds (replicate flashPage 255)) i k b unsent-ff
 
 -- a page number that no page has, and a first place that a page has not, change nothing
 module _ (number : ℕ) (i : Image) where
-  pub programPage-none : (bytes : List ℕ) → 128 ≤ number → programPage number bytes i ≡ i
+  pub programPage-none : (bytes : List ℕ) → sizeOf i / flashPage ≤ number → programPage number bytes i ≡ i
   unfolding programPage
-  programPage-none bytes h = page-none i 256 number (λ q c. programmedCell c (getD bytes q 0)) h
+  programPage-none bytes h = page-none i flashPage number (λ q c. programmedCell c (getD bytes q 0)) h
 
-  pub cutProgramPage-none : (bytes : List ℕ) → 128 ≤ number → cutProgramPage number bytes i ≡ i
+  pub cutProgramPage-none : (bytes : List ℕ) → sizeOf i / flashPage ≤ number → cutProgramPage number bytes i ≡ i
   unfolding cutProgramPage
-  cutProgramPage-none bytes h = page-none i 256 number (λ q c. cutCell c (getD bytes q 0)) h
+  cutProgramPage-none bytes h = page-none i flashPage number (λ q c. cutCell c (getD bytes q 0)) h
 
-  pub storePage-none : (first count : ℕ) (bytes : List ℕ) → 512 ≤ number → storePage number first count bytes i ≡ i
+  pub storePage-none : (first count : ℕ) (bytes : List ℕ) → sizeOf i / eepromPage ≤ number → storePage number first count bytes i ≡ i
   unfolding storePage
-  storePage-none first count bytes h = page-none i 64 number (λ q c. pick (isSent first count q) (storedCell (getD bytes q 0)) c) h
+  storePage-none first count bytes h = page-none i eepromPage number (λ q c. pick (isSent first count q) (storedCell (getD bytes q 0)) c) h
 
-  pub cutStorePage-none : (first count : ℕ) → 512 ≤ number → cutStorePage number first count i ≡ i
+  pub cutStorePage-none : (first count : ℕ) → sizeOf i / eepromPage ≤ number → cutStorePage number first count i ≡ i
   unfolding cutStorePage
-  cutStorePage-none first count h = page-none i 64 number (λ q c. pick (isSent first count q) doubtfulCell c) h
+  cutStorePage-none first count h = page-none i eepromPage number (λ q c. pick (isSent first count q) doubtfulCell c) h
 
-  pub storePage-first : (first count : ℕ) (bytes : List ℕ) → 64 ≤ first → storePage number first count bytes i ≡ i
+  pub storePage-first : (first count : ℕ) (bytes : List ℕ) → eepromPage ≤ first → storePage number first count bytes i ≡ i
   unfolding storePage
   storePage-first first count bytes h =
-      page-keeping 64 number (λ q c. pick (isSent first count q) (storedCell (getD bytes q 0)) c) i (λ q c. simp (le-ltb _ _ h))
+      page-keeping eepromPage number (λ q c. pick (isSent first count q) (storedCell (getD bytes q 0)) c) i (λ q c. simp (le-ltb _ _ h))
 
-  pub cutStorePage-first : (first count : ℕ) → 64 ≤ first → cutStorePage number first count i ≡ i
+  pub cutStorePage-first : (first count : ℕ) → eepromPage ≤ first → cutStorePage number first count i ≡ i
   unfolding cutStorePage
   cutStorePage-first first count h =
-      page-keeping 64 number (λ q c. pick (isSent first count q) doubtfulCell c) i (λ q c. simp (le-ltb _ _ h))
+      page-keeping eepromPage number (λ q c. pick (isSent first count q) doubtfulCell c) i (λ q c. simp (le-ltb _ _ h))

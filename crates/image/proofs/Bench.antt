@@ -3,13 +3,14 @@
 use mathlib.Core.Path.{_≡_, ap₂, _∙_}
 use mathlib.Core.Bool.{Bool, true, _&&_}
 use mathlib.Core.List.{List, [], _∷_, _++_}
-use Prim.Native.Nat.{ℕ, _+_, _*_, _<_}
+use Prim.Native.Nat.{ℕ, _+_, _*_, _/_, _<_}
 use lib.Dec.{T, eqb}
 use lib.ListN.{getD, replicate}
 use Rattle.cell.specs.declared.Cell.{Cell}
 use Rattle.cell.specs.Rules.{programmedCell, cutCell, erasedCell, storedCell}
+use Rattle.page.specs.Geometry.{flashPage}
 use Rattle.page.specs.Rolling.{place, roll}
-use Rattle.image.specs.Image.{Image, fits, cellAt}
+use Rattle.image.specs.Image.{Image, spans, cellAt}
 use Rattle.image.specs.Cycles.{programPage}
 use Rattle.image.proofs.AtPlace.{programPage-at}
 
@@ -44,7 +45,7 @@ pub bench : T (right sheet)
 bench = tt
 
 -- case 1 on an image: an erased place of a page that is programmed a5 there
-pub programmed-image : (i : Image) (number q : ℕ) (bytes : List ℕ) → fits i ≡ true → number < 128 → q < 256
-    → cellAt i (256 * number + q) ≡ erasedCell → getD bytes q 0 ≡ 0xa5 → cellAt (programPage number bytes i) (256 * number + q) ≡ storedCell 0xa5
-programmed-image i number q bytes t h l e d =
-    programPage-at i t number bytes h q l ∙ ap₂ (λ (c : Cell) (x : ℕ). programmedCell c x) e d
+pub programmed-image : (i : Image) (n number q : ℕ) (bytes : List ℕ) → spans n i ≡ true → number < n / flashPage → q < flashPage
+    → cellAt i (flashPage * number + q) ≡ erasedCell → getD bytes q 0 ≡ 0xa5 → cellAt (programPage number bytes i) (flashPage * number + q) ≡ storedCell 0xa5
+programmed-image i n number q bytes t h l e d =
+    programPage-at i n t number bytes h q l ∙ ap₂ (λ (c : Cell) (x : ℕ). programmedCell c x) e d

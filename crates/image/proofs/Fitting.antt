@@ -1,5 +1,5 @@
 -- When an image fits, and that rules leave another alone. Assumes nothing.
-use mathlib.Core.Path.{_≡_}
+use mathlib.Core.Path.{_≡_, refl, sym, _∙_}
 use mathlib.Core.Bool.{true, false}
 use Prim.Native.Nat.{ℕ, _/_, _≤_, _<_}
 use lib.Dec.{eqb}
@@ -7,28 +7,41 @@ use borrow.Author.Tests.{eq-eqb, ne-eqb, eqb-true, lt-ltb, le-ltb}
 use lib.ListN.{length}
 use Rattle.law.specs.Choice.{both}
 use Rattle.cell.specs.declared.Cell.{Cell}
-use Rattle.image.specs.Image.{Image, keptBytes, fits, eachPlace, onImage, inPage, onPage}
+use Rattle.image.specs.Image.{Image, sizeOf, fits, spans, eachPlace, onImage, inPage, onPage}
 
 module _ (i : Image) where
-  pub lengths-fit : length (i .values) ≡ keptBytes → length (i .masks) ≡ keptBytes → fits i ≡ true
+  pub lengths-fit : length (i .masks) ≡ length (i .values) → fits i ≡ true
   unfolding fits
-  lengths-fit v m = simp (eq-eqb _ _ v, eq-eqb _ _ m)
+  lengths-fit e = eq-eqb _ _ e
 
-  pub fits-values : fits i ≡ true → length (i .values) ≡ keptBytes
+  pub fits-lengths : fits i ≡ true → length (i .masks) ≡ length (i .values)
   unfolding fits
-  fits-values e = eqb-true _ _ (both (eqb (length (i .values)) keptBytes) (eqb (length (i .masks)) keptBytes) e .0)
+  fits-lengths t = eqb-true _ _ t
 
-  pub fits-masks : fits i ≡ true → length (i .masks) ≡ keptBytes
+  pub lengths-unfit : (length (i .masks) ≡ length (i .values) → ⊥) → fits i ≡ false
   unfolding fits
-  fits-masks e = eqb-true _ _ (both (eqb (length (i .values)) keptBytes) (eqb (length (i .masks)) keptBytes) e .1)
+  lengths-unfit n = ne-eqb _ _ n
 
-  pub values-unfit : (length (i .values) ≡ keptBytes → ⊥) → fits i ≡ false
-  unfolding fits
-  values-unfit n = simp (ne-eqb _ _ n)
+  -- an image of n bytes
+  module _ (n : ℕ) where
+    pub lengths-span : length (i .values) ≡ n → length (i .masks) ≡ n → spans n i ≡ true
+    unfolding spans
+    lengths-span v m = simp (eq-eqb _ _ v, eq-eqb _ _ m)
 
-  pub masks-unfit : length (i .values) ≡ keptBytes → (length (i .masks) ≡ keptBytes → ⊥) → fits i ≡ false
-  unfolding fits
-  masks-unfit v n = simp (eq-eqb _ _ v, ne-eqb _ _ n)
+    pub spans-values : spans n i ≡ true → length (i .values) ≡ n
+    unfolding spans
+    spans-values e = eqb-true _ _ (both (eqb (length (i .values)) n) (eqb (length (i .masks)) n) e .0)
+
+    pub spans-masks : spans n i ≡ true → length (i .masks) ≡ n
+    unfolding spans
+    spans-masks e = eqb-true _ _ (both (eqb (length (i .values)) n) (eqb (length (i .masks)) n) e .1)
+
+    pub spans-fits : spans n i ≡ true → fits i ≡ true
+    spans-fits e = lengths-fit (spans-masks e ∙ sym (spans-values e))
+
+  -- one that fits has its own length
+  pub fits-spans : fits i ≡ true → spans (sizeOf i) i ≡ true
+  fits-spans t = lengths-span (sizeOf i) refl (fits-lengths t)
 
   -- what the rules are where the image fits, and where not
   module _ (rule : ℕ → Cell → Cell) where
@@ -41,10 +54,10 @@ module _ (i : Image) where
     on-unfit e = simp e
 
   module _ (size number : ℕ) (rule : ℕ → Cell → Cell) where
-    pub page-there : number < keptBytes / size → onPage size number rule i ≡ onImage (inPage size number rule) i
+    pub page-there : number < sizeOf i / size → onPage size number rule i ≡ onImage (inPage size number rule) i
     unfolding onPage
     page-there h = simp (lt-ltb _ _ h)
 
-    pub page-none : keptBytes / size ≤ number → onPage size number rule i ≡ i
+    pub page-none : sizeOf i / size ≤ number → onPage size number rule i ≡ i
     unfolding onPage
     page-none h = simp (le-ltb _ _ h)

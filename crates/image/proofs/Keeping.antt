@@ -13,36 +13,37 @@ use Rattle.cell.specs.declared.Cell.{Cell}
 use Rattle.cell.specs.Rules.{erasedCell, doubtfulCell, storedCell, programmedCell, cutCell, Disjoint, ByteCell}
 use Rattle.cell.proofs.Disjoint.{disjoint-erased, disjoint-doubtful, disjoint-stored, disjoint-programmed, disjoint-cut}
 use Rattle.cell.proofs.Neutral.{byte-erased, byte-doubtful, byte-stored, byte-programmed, byte-cut}
-use Rattle.image.specs.Image.{Image, keptBytes, fits, cellAt, onImage, inPage, onPage, Clean, Bytes}
+use Rattle.page.specs.Geometry.{flashPage, eepromPage}
+use Rattle.image.specs.Image.{Image, sizeOf, fits, spans, cellAt, onImage, inPage, onPage, Clean, Bytes}
 use Rattle.image.specs.Cycles.{programPage, cutProgramPage, eraseAll, cutEraseAll, storePage, cutStorePage, isSent}
-use Rattle.image.proofs.Fitting.{on-unfit, page-there, page-none}
-use Rattle.image.proofs.Reading.{noCell, on-fits, on-at, on-past, page-fits}
+use Rattle.image.proofs.Fitting.{fits-spans, on-unfit, page-there, page-none}
+use Rattle.image.proofs.Reading.{noCell, on-spans, on-at, on-past, page-spans}
 
 -- the six rules keep the lengths
-module _ (i : Image) where
-  pub fits-programPage : (number : ℕ) (bytes : List ℕ) → fits (programPage number bytes i) ≡ fits i
+module _ (i : Image) (n : ℕ) where
+  pub spans-programPage : (number : ℕ) (bytes : List ℕ) → spans n (programPage number bytes i) ≡ spans n i
   unfolding programPage
-  fits-programPage number bytes = page-fits 256 number (λ q c. programmedCell c (getD bytes q 0)) i
+  spans-programPage number bytes = page-spans flashPage number (λ q c. programmedCell c (getD bytes q 0)) i n
 
-  pub fits-cutProgramPage : (number : ℕ) (bytes : List ℕ) → fits (cutProgramPage number bytes i) ≡ fits i
+  pub spans-cutProgramPage : (number : ℕ) (bytes : List ℕ) → spans n (cutProgramPage number bytes i) ≡ spans n i
   unfolding cutProgramPage
-  fits-cutProgramPage number bytes = page-fits 256 number (λ q c. cutCell c (getD bytes q 0)) i
+  spans-cutProgramPage number bytes = page-spans flashPage number (λ q c. cutCell c (getD bytes q 0)) i n
 
-  pub fits-eraseAll : fits (eraseAll i) ≡ fits i
+  pub spans-eraseAll : spans n (eraseAll i) ≡ spans n i
   unfolding eraseAll
-  fits-eraseAll = on-fits (λ k c. erasedCell) i
+  spans-eraseAll = on-spans (λ k c. erasedCell) i n
 
-  pub fits-cutEraseAll : fits (cutEraseAll i) ≡ fits i
+  pub spans-cutEraseAll : spans n (cutEraseAll i) ≡ spans n i
   unfolding cutEraseAll
-  fits-cutEraseAll = on-fits (λ k c. doubtfulCell) i
+  spans-cutEraseAll = on-spans (λ k c. doubtfulCell) i n
 
-  pub fits-storePage : (number first count : ℕ) (bytes : List ℕ) → fits (storePage number first count bytes i) ≡ fits i
+  pub spans-storePage : (number first count : ℕ) (bytes : List ℕ) → spans n (storePage number first count bytes i) ≡ spans n i
   unfolding storePage
-  fits-storePage number first count bytes = page-fits 64 number (λ q c. pick (isSent first count q) (storedCell (getD bytes q 0)) c) i
+  spans-storePage number first count bytes = page-spans eepromPage number (λ q c. pick (isSent first count q) (storedCell (getD bytes q 0)) c) i n
 
-  pub fits-cutStorePage : (number first count : ℕ) → fits (cutStorePage number first count i) ≡ fits i
+  pub spans-cutStorePage : (number first count : ℕ) → spans n (cutStorePage number first count i) ≡ spans n i
   unfolding cutStorePage
-  fits-cutStorePage number first count = page-fits 64 number (λ q c. pick (isSent first count q) doubtfulCell c) i
+  spans-cutStorePage number first count = page-spans eepromPage number (λ q c. pick (isSent first count q) doubtfulCell c) i n
 
 -- what the rule keeps of each byte, the image keeps of all
 module _ (P : Cell → Type 0) (none : P noCell) (i : Image) (had : (k : ℕ) → P (cellAt i k)) where
@@ -50,8 +51,8 @@ module _ (P : Cell → Type 0) (none : P noCell) (i : Image) (had : (k : ℕ) �
   on-keeps rule keeps k =
       split (fits i)
       (λ t.
-      ⊎-elim (λ l. subst P (sym (on-at rule i t k l)) (keeps k (cellAt i k) (had k)))
-      (λ l. subst P (sym (on-past rule i t k l)) none) (lt-or-le k keptBytes))
+      ⊎-elim (λ l. subst P (sym (on-at rule i (sizeOf i) (fits-spans i t) k l)) (keeps k (cellAt i k) (had k)))
+      (λ l. subst P (sym (on-past rule i (sizeOf i) (fits-spans i t) k l)) none) (lt-or-le k (sizeOf i)))
       (λ t. subst (λ (w : Image). P (cellAt w k)) (sym (on-unfit i rule t)) (had k))
 
   pub page-keeps : (size number : ℕ) (rule : ℕ → Cell → Cell) → ((q : ℕ) (c : Cell) → P c → P (rule q c)) → (k : ℕ)
@@ -62,7 +63,7 @@ module _ (P : Cell → Type 0) (none : P noCell) (i : Image) (had : (k : ℕ) �
       subst (λ (w : Image). P (cellAt w k)) (sym (page-there i size number rule h))
       (on-keeps (inPage size number rule)
       (λ j c p. of-both P (eqb (j / size) number) (rule (j % size) c) c (keeps (j % size) c p) p) k))
-      (λ h. subst (λ (w : Image). P (cellAt w k)) (sym (page-none i size number rule h)) (had k)) (lt-or-le number (keptBytes / size))
+      (λ h. subst (λ (w : Image). P (cellAt w k)) (sym (page-none i size number rule h)) (had k)) (lt-or-le number (sizeOf i / size))
 
 -- no doubtful bit is set in the value
 module _ (i : Image) (h : Clean i) where
@@ -72,12 +73,12 @@ module _ (i : Image) (h : Clean i) where
   pub clean-programPage : (number : ℕ) (bytes : List ℕ) → Clean (programPage number bytes i)
   unfolding programPage Clean
   clean-programPage number bytes =
-      page-keeps Disjoint none i h 256 number (λ q c. programmedCell c (getD bytes q 0)) (λ q c p. disjoint-programmed c (getD bytes q 0) p)
+      page-keeps Disjoint none i h flashPage number (λ q c. programmedCell c (getD bytes q 0)) (λ q c p. disjoint-programmed c (getD bytes q 0) p)
 
   pub clean-cutProgramPage : (number : ℕ) (bytes : List ℕ) → Clean (cutProgramPage number bytes i)
   unfolding cutProgramPage Clean
   clean-cutProgramPage number bytes =
-      page-keeps Disjoint none i h 256 number (λ q c. cutCell c (getD bytes q 0)) (λ q c p. disjoint-cut c (getD bytes q 0) p)
+      page-keeps Disjoint none i h flashPage number (λ q c. cutCell c (getD bytes q 0)) (λ q c p. disjoint-cut c (getD bytes q 0) p)
 
   pub clean-eraseAll : Clean (eraseAll i)
   unfolding eraseAll Clean
@@ -90,13 +91,13 @@ module _ (i : Image) (h : Clean i) where
   pub clean-storePage : (number first count : ℕ) (bytes : List ℕ) → Clean (storePage number first count bytes i)
   unfolding storePage Clean
   clean-storePage number first count bytes =
-      page-keeps Disjoint none i h 64 number (λ q c. pick (isSent first count q) (storedCell (getD bytes q 0)) c)
+      page-keeps Disjoint none i h eepromPage number (λ q c. pick (isSent first count q) (storedCell (getD bytes q 0)) c)
       (λ q c p. of-both Disjoint (isSent first count q) (storedCell (getD bytes q 0)) c (disjoint-stored (getD bytes q 0)) p)
 
   pub clean-cutStorePage : (number first count : ℕ) → Clean (cutStorePage number first count i)
   unfolding cutStorePage Clean
   clean-cutStorePage number first count =
-      page-keeps Disjoint none i h 64 number (λ q c. pick (isSent first count q) doubtfulCell c)
+      page-keeps Disjoint none i h eepromPage number (λ q c. pick (isSent first count q) doubtfulCell c)
       (λ q c p. of-both Disjoint (isSent first count q) doubtfulCell c disjoint-doubtful p)
 
 -- it is enough to look at the places that an image has
@@ -115,12 +116,12 @@ module _ (i : Image) (h : Bytes i) where
   pub bytes-programPage : (number : ℕ) (bytes : List ℕ) → Bytes (programPage number bytes i)
   unfolding programPage Bytes
   bytes-programPage number bytes =
-      page-keeps ByteCell zero-byte i h 256 number (λ q c. programmedCell c (getD bytes q 0)) (λ q c p. byte-programmed c (getD bytes q 0) p)
+      page-keeps ByteCell zero-byte i h flashPage number (λ q c. programmedCell c (getD bytes q 0)) (λ q c p. byte-programmed c (getD bytes q 0) p)
 
   pub bytes-cutProgramPage : (number : ℕ) (bytes : List ℕ) → Bytes (cutProgramPage number bytes i)
   unfolding cutProgramPage Bytes
   bytes-cutProgramPage number bytes =
-      page-keeps ByteCell zero-byte i h 256 number (λ q c. cutCell c (getD bytes q 0)) (λ q c p. byte-cut c (getD bytes q 0) p)
+      page-keeps ByteCell zero-byte i h flashPage number (λ q c. cutCell c (getD bytes q 0)) (λ q c p. byte-cut c (getD bytes q 0) p)
 
   pub bytes-eraseAll : Bytes (eraseAll i)
   unfolding eraseAll Bytes
@@ -133,11 +134,11 @@ module _ (i : Image) (h : Bytes i) where
   pub bytes-storePage : (number first count : ℕ) (bytes : List ℕ) → ((q : ℕ) → getD bytes q 0 < 256) → Bytes (storePage number first count bytes i)
   unfolding storePage Bytes
   bytes-storePage number first count bytes small =
-      page-keeps ByteCell zero-byte i h 64 number (λ q c. pick (isSent first count q) (storedCell (getD bytes q 0)) c)
+      page-keeps ByteCell zero-byte i h eepromPage number (λ q c. pick (isSent first count q) (storedCell (getD bytes q 0)) c)
       (λ q c p. of-both ByteCell (isSent first count q) (storedCell (getD bytes q 0)) c (byte-stored (getD bytes q 0) (small q)) p)
 
   pub bytes-cutStorePage : (number first count : ℕ) → Bytes (cutStorePage number first count i)
   unfolding cutStorePage Bytes
   bytes-cutStorePage number first count =
-      page-keeps ByteCell zero-byte i h 64 number (λ q c. pick (isSent first count q) doubtfulCell c)
+      page-keeps ByteCell zero-byte i h eepromPage number (λ q c. pick (isSent first count q) doubtfulCell c)
       (λ q c p. of-both ByteCell (isSent first count q) doubtfulCell c byte-doubtful p)

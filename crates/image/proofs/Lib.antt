@@ -1,4 +1,5 @@
 -- What the proofs of `image` share, and the laws that upper floors read images by.
+pub mod Each
 pub mod Fitting
 pub mod Pages
 pub mod Reading

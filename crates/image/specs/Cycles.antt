@@ -8,17 +8,11 @@ use lib.ListN.{getD}
 use Rattle.law.specs.Choice.{pick}
 use Rattle.cell.specs.declared.Cell.{Cell}
 use Rattle.cell.specs.Rules.{erasedCell, doubtfulCell, storedCell, programmedCell, cutCell}
+use Rattle.page.specs.Geometry.{flashPage, eepromPage}
 use Rattle.page.specs.Rolling.{sentPlace}
 use Rattle.image.specs.declared.Change.{Change}
 use Rattle.image.specs.declared.Change.the-variants.{Program, CutProgram, Store, CutStore}
 use Rattle.image.specs.Image.{Image, onImage, onPage}
-
--- the low eight address bits, and the low six, are a place in a page
-abbrev pub flashPage : ℕ
-flashPage = 256
-
-abbrev pub eepromPage : ℕ
-eepromPage = 64
 
 -- PROGRAM at `end`. `bytes` has ff where nothing was sent, which changes nothing: so only the bytes sent change (law `programPage-unsent`)
 unfoldable pub programPage : ℕ → List ℕ → Image → Image

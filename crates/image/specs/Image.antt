@@ -16,13 +16,17 @@ pub record Image : Type 0 where
 abbrev pub imageOf : List ℕ → List ℕ → Image
 imageOf values masks = record { values = values; masks = masks }
 
--- 'What is replayed': 32,768 bytes are kept of the flash, and of the EEPROM
-abbrev pub keptBytes : ℕ
-keptBytes = 32768
+-- how many bytes are kept: an image has its own length
+abbrev pub sizeOf : Image → ℕ
+sizeOf i = length (i .values)
 
--- does an image have that many values and masks?
+-- a kept byte is a value and a mask: does an image have as many of the ones as of the others?
 unfoldable pub fits : Image → Bool
-fits i = pick (eqb (length (i .values)) keptBytes) (eqb (length (i .masks)) keptBytes) false
+fits i = eqb (length (i .masks)) (sizeOf i)
+
+-- does it have n of both?
+unfoldable pub spans : ℕ → Image → Bool
+spans n i = pick (eqb (length (i .values)) n) (eqb (length (i .masks)) n) false
 
 -- the kept byte at a place
 abbrev pub cellAt : Image → ℕ → Cell
@@ -48,9 +52,9 @@ onImage rule i = pick (fits i) (eachPlace rule i) i
 abbrev pub inPage : ℕ → ℕ → (ℕ → Cell → Cell) → ℕ → Cell → Cell
 inPage size number rule k c = pick (eqb (k / size) number) (rule (k % size) c) c
 
--- page `number` of an image that fits; a number past the last page changes nothing
+-- page `number` of an image that fits; a number past its last page changes nothing
 unfoldable pub onPage : ℕ → ℕ → (ℕ → Cell → Cell) → Image → Image
-onPage size number rule i = pick (ltb number (keptBytes / size)) (onImage (inPage size number rule) i) i
+onPage size number rule i = pick (ltb number (sizeOf i / size)) (onImage (inPage size number rule) i) i
 
 -- 'Bytes and doubt': a doubtful bit is 0 in the value, at every place
 unfoldable pub Clean : Image → Type 0

@@ -1,4 +1,5 @@
 -- The kept bytes of a chip, what a cycle makes of them, and the page view.
 pub mod Image
+pub mod Images
 pub mod Cycles
 pub mod View

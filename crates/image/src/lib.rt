@@ -1,17 +1,16 @@
 // The kept bytes of one chip, lent as values and masks of doubtful bits: what a cycle makes of them, whole or cut by the supply.
-// A slice of another length than 32,768, and a page number that no page has, are left alone.
+// An image has its own length. Values and masks of two lengths, and a page number that no page has, are left alone.
 ghost use mathlib.Core.Path.{_≡_};
 ghost use Prim.Native.Nat.{_+_, _*_, _≤_, _<_};
 ghost use lib.ListN.{length};
 ghost use Rattle.law.specs.Places.{byPlace};
-ghost use Rattle.image.specs.Image.{imageOf, keptBytes, eachPlace, onImage, inPage, onPage};
+ghost use Rattle.image.specs.Image.{imageOf, eachPlace, onImage, inPage, onPage};
 ghost use Rattle.image.specs.Cycles.{programPage, cutProgramPage, eraseAll, cutEraseAll, storePage, cutStorePage, isSent, changedCell, changedPlace};
 use cell::Cell;
 
 pub mod view;
 
-// How many bytes are kept of a chip.
-const KEPT: usize = 32768;
+const EEPROM_PAGE: usize = page::EEPROM_PAGE as usize;
 
 // What becomes of the places of a page.
 enum Change {
@@ -91,8 +90,8 @@ fn sent(first: usize, count: usize, q: usize) -> bool
     requires { ⌜ q < 256 ⌝ }
     ensures { λ r. ⌜ r ≡ isSent first count q ⌝ }
 {
-    if first < 64 {
-        (q + (64 - first)) % 64 < count
+    if first < EEPROM_PAGE {
+        (q + (EEPROM_PAGE - first)) % EEPROM_PAGE < count
     } else {
         false
     }
@@ -128,13 +127,10 @@ fn change_page(values: &mut [u8], masks: &mut [u8], how: Change, number: usize, 
     requires { ⌜ (0 < length (now bytes)) × (length (now bytes) ≤ 256) ⌝ }
     ensures { λ _. ⌜ imageOf (now (values .exit)) (now (masks .exit)) ≡ onPage (length (now (bytes .entry))) number (changedPlace how (now (bytes .entry))) (imageOf (now (values .entry)) (now (masks .entry))) ⌝ }
 {
-    if KEPT / bytes.len() <= number {
+    if values.len() / bytes.len() <= number {
         return;
     }
-    if values.len() != KEPT {
-        return;
-    }
-    if masks.len() != KEPT {
+    if masks.len() != values.len() {
         return;
     }
     change_places(values, masks, how, number, bytes);
@@ -142,7 +138,7 @@ fn change_page(values: &mut [u8], masks: &mut [u8], how: Change, number: usize, 
 
 // The places of the page, one after the other.
 fn change_places(values: &mut [u8], masks: &mut [u8], how: Change, number: usize, bytes: &[u8])
-    requires { ⌜ (length (now values) ≡ keptBytes) × (length (now masks) ≡ keptBytes) × (0 < length (now bytes)) × (length (now bytes) ≤ 256) × (length (now bytes) * number + length (now bytes) ≤ keptBytes) ⌝ }
+    requires { ⌜ (length (now masks) ≡ length (now values)) × (0 < length (now bytes)) × (length (now bytes) ≤ 256) × (length (now bytes) * number + length (now bytes) ≤ length (now values)) ⌝ }
     ensures { λ _. ⌜ imageOf (now (values .exit)) (now (masks .exit)) ≡ eachPlace (inPage (length (now (bytes .entry))) number (changedPlace how (now (bytes .entry)))) (imageOf (now (values .entry)) (now (masks .entry))) ⌝ }
 {
     let base = bytes.len() * number;
@@ -164,10 +160,7 @@ fn change_places(values: &mut [u8], masks: &mut [u8], how: Change, number: usize
 fn fill_both(values: &mut [u8], masks: &mut [u8], c: Cell)
     ensures { λ _. ⌜ imageOf (now (values .exit)) (now (masks .exit)) ≡ onImage (λ k b. c) (imageOf (now (values .entry)) (now (masks .entry))) ⌝ }
 {
-    if values.len() != KEPT {
-        return;
-    }
-    if masks.len() != KEPT {
+    if masks.len() != values.len() {
         return;
     }
     fill(values, c.value);

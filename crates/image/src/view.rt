@@ -1,7 +1,7 @@
 // The page view: a page of the flash image or of the EEPROM image as a part of it, not a copy.
 ghost use mathlib.Core.Path.{_≡_};
-ghost use Rattle.image.specs.View.{pageSize, lastPage, canShow, viewPlace, viewLength, pageShown};
-use crate::KEPT;
+ghost use Rattle.image.specs.Images.{perChip, keptBytes, pageSize};
+ghost use Rattle.image.specs.View.{canShow, viewPlace, viewLength, pageShown};
 
 pub enum Chip {
     Flash,
@@ -10,7 +10,7 @@ pub enum Chip {
 
 // Page `number` of the image asked for. The empty part is refusal 11: no page is empty.
 pub fn view<'a>(flash: &'a [u8], eeprom: &'a [u8], chip: Chip, number: usize) -> &'a [u8]
-    ensures { λ r. ⌜ now r ≡ pageShown (now (flash .entry)) (now (eeprom .entry)) chip number ⌝ }
+    ensures { λ r. ⌜ now r ≡ pageShown (perChip (now (flash .entry)) (now (eeprom .entry))) chip number ⌝ }
 {
     let from = view_place(flash.len(), eeprom.len(), chip, number);
     let to = from + view_length(flash.len(), eeprom.len(), chip, number);
@@ -22,7 +22,7 @@ pub fn view<'a>(flash: &'a [u8], eeprom: &'a [u8], chip: Chip, number: usize) ->
 
 // For a caller that can be given no part: where in its image the page stands, by the lengths of the two images.
 pub fn view_place(flash: usize, eeprom: usize, chip: Chip, number: usize) -> usize
-    ensures { λ r. ⌜ r ≡ viewPlace flash eeprom chip number ⌝ }
+    ensures { λ r. ⌜ r ≡ viewPlace (perChip flash eeprom) chip number ⌝ }
 {
     if can_show(flash, eeprom, chip, number) {
         page_size(chip) * number
@@ -33,7 +33,7 @@ pub fn view_place(flash: usize, eeprom: usize, chip: Chip, number: usize) -> usi
 
 // And how long it is: 0 is refusal 11.
 pub fn view_length(flash: usize, eeprom: usize, chip: Chip, number: usize) -> usize
-    ensures { λ r. ⌜ r ≡ viewLength flash eeprom chip number ⌝ }
+    ensures { λ r. ⌜ r ≡ viewLength (perChip flash eeprom) chip number ⌝ }
 {
     if can_show(flash, eeprom, chip, number) {
         page_size(chip)
@@ -44,23 +44,24 @@ pub fn view_length(flash: usize, eeprom: usize, chip: Chip, number: usize) -> us
 
 // Both images have to be whole, whichever is asked for.
 fn can_show(flash: usize, eeprom: usize, chip: Chip, number: usize) -> bool
-    ensures { λ r. ⌜ r ≡ canShow flash eeprom chip number ⌝ }
+    ensures { λ r. ⌜ r ≡ canShow (perChip flash eeprom) chip number ⌝ }
 {
-    if flash != KEPT {
+    if flash != kept_bytes(Chip::Flash) {
         return false;
     }
-    if eeprom != KEPT {
+    if eeprom != kept_bytes(Chip::Eeprom) {
         return false;
     }
-    number <= last_page(chip)
+    number < kept_bytes(chip) / page_size(chip)
 }
 
-fn last_page(chip: Chip) -> usize
-    ensures { λ r. ⌜ r ≡ lastPage chip ⌝ }
+// How many bytes are kept of a chip: what refusals 1 and 11 ask for.
+pub fn kept_bytes(chip: Chip) -> usize
+    ensures { λ r. ⌜ r ≡ keptBytes chip ⌝ }
 {
     match chip {
-        Chip::Flash => 127,
-        Chip::Eeprom => 511,
+        Chip::Flash => page::FLASH_SECTOR as usize,
+        Chip::Eeprom => page::EEPROM_SIZE as usize,
     }
 }
 
@@ -68,7 +69,7 @@ fn page_size(chip: Chip) -> usize
     ensures { λ r. ⌜ r ≡ pageSize chip ⌝ }
 {
     match chip {
-        Chip::Flash => 256,
-        Chip::Eeprom => 64,
+        Chip::Flash => page::FLASH_PAGE as usize,
+        Chip::Eeprom => page::EEPROM_PAGE as usize,
     }
 }

@@ -4,6 +4,7 @@ use mathlib.Core.Bool.{Bool, true, not}
 use mathlib.Core.List.{List}
 use lib.Dec.{eqb}
 use Rattle.law.specs.Choice.{pick}
+use Rattle.record.specs.declared.Board.{Board}
 use Rattle.record.specs.declared.Event.{Event}
 use Rattle.record.specs.declared.Event.the-variants as event
 use Rattle.record.specs.declared.Skeleton.{Skeleton}
@@ -20,7 +21,10 @@ use Rattle.flash.specs.Code.{sectorLocked}
 use Rattle.eeprom.specs.declared.Eeprom.{Eeprom}
 use Rattle.eeprom.specs.declared.EepromCycle.{EepromCycle}
 use Rattle.eeprom.specs.declared.EepromCycle.the-variants as eeprom-cycle
+use Rattle.board.specs.declared.Controls.{Controls}
+use Rattle.page.specs.Geometry.{sectorPages}
 use Rattle.image.specs.Image.{Image}
+use Rattle.image.specs.Images.{Images}
 use Rattle.image.specs.Cycles.{programPage, cutProgramPage, eraseAll, cutEraseAll, storePage, cutStorePage}
 use Rattle.machine.specs.declared.Stroke.{Stroke}
 use Rattle.machine.specs.declared.Stroke.the-variants.{Nothing, Whole, Cut}
@@ -51,9 +55,12 @@ eepromStroke l (event.Flash e) k = Nothing
 eepromStroke l (event.Eeprom e) k = strokeOf k
 eepromStroke l (event.Line e) k = lineStroke l e
 
--- page n of the chip is page n % 128 of sector n / 128 + 1
+-- page n of the chip is page `inSector n` of sector `sectorOfPage n`
 abbrev pub sectorOfPage : ℕ → ℕ
-sectorOfPage n = n / 128 + 1
+sectorOfPage n = n / sectorPages + 1
+
+abbrev pub inSector : ℕ → ℕ
+inSector n = n % sectorPages
 
 -- chip erase clears the unlocked sectors; a cycle's status is known, so what stands for Lost never counts
 abbrev pub reached : FlashStatus → ℕ → Bool
@@ -63,7 +70,7 @@ reached (Known s) watched = not (sectorLocked s watched)
 -- at `end`, of what is kept: outside the watched sector nothing changes; WRSR changes no byte
 abbrev pub flashWhole : ℕ → FlashCycle → List ℕ → FlashStatus → Image → Image
 flashWhole watched flash-cycle.None page status i = i
-flashWhole watched (flash-cycle.Program n) page status i = pick (eqb (sectorOfPage n) watched) (programPage (n % 128) page i) i
+flashWhole watched (flash-cycle.Program n) page status i = pick (eqb (sectorOfPage n) watched) (programPage (inSector n) page i) i
 flashWhole watched (flash-cycle.SectorErase sector) page status i = pick (eqb sector watched) (eraseAll i) i
 flashWhole watched flash-cycle.ChipErase page status i = pick (reached status watched) (eraseAll i) i
 flashWhole watched (flash-cycle.WriteStatus bits) page status i = i
@@ -71,7 +78,7 @@ flashWhole watched (flash-cycle.WriteStatus bits) page status i = i
 -- at `off`
 abbrev pub flashCut : ℕ → FlashCycle → List ℕ → FlashStatus → Image → Image
 flashCut watched flash-cycle.None page status i = i
-flashCut watched (flash-cycle.Program n) page status i = pick (eqb (sectorOfPage n) watched) (cutProgramPage (n % 128) page i) i
+flashCut watched (flash-cycle.Program n) page status i = pick (eqb (sectorOfPage n) watched) (cutProgramPage (inSector n) page i) i
 flashCut watched (flash-cycle.SectorErase sector) page status i = pick (eqb sector watched) (cutEraseAll i) i
 flashCut watched flash-cycle.ChipErase page status i = pick (reached status watched) (cutEraseAll i) i
 flashCut watched (flash-cycle.WriteStatus bits) page status i = i
@@ -94,3 +101,10 @@ unfoldable pub eepromAfter : Stroke → Eeprom → Image → Image
 eepromAfter Nothing e i = i
 eepromAfter Whole e i = eepromWhole (e .cycle) (e .page) i
 eepromAfter Cut e i = eepromCut (e .cycle) i
+
+-- what a record makes of the images, by its event and its reply, with these controls before it: each chip's image by its own stroke
+abbrev pub imagesAfter : Board → Controls → Event → Skeleton → Images → Images
+imagesAfter b c v k x = record {
+  flash = flashAfter (flashStroke (c .lines) v k) (b .sector) (c .flash) (x .flash);
+  eeprom = eepromAfter (eepromStroke (c .lines) v k) (c .eeprom) (x .eeprom);
+}

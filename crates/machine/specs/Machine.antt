@@ -10,20 +10,20 @@ use Rattle.record.specs.declared.Reply.{Reply}
 use Rattle.board.specs.declared.Controls.{Controls}
 use Rattle.board.specs.Play.{startOf, movedOf, lostOf}
 use Rattle.image.specs.Image.{Image}
-use Rattle.machine.specs.Effects.{flashStroke, eepromStroke, flashAfter, eepromAfter}
+use Rattle.image.specs.Images.{Images}
+use Rattle.machine.specs.Effects.{imagesAfter}
 use Rattle.machine.specs.Replies.{delivered}
 
 pub record Machine : Type 0 where
   pub controls : Controls
-  pub flash : Image
-  pub eeprom : Image
+  pub images : Images
 
-abbrev pub machineOf : Controls → Image → Image → Machine
-machineOf c f e = record { controls = c; flash = f; eeprom = e }
+abbrev pub machineOf : Controls → Images → Machine
+machineOf c x = record { controls = c; images = x }
 
 -- 'Bytes and doubt': the start, with the images as they are lent
-abbrev pub machineAtStart : Board → Image → Image → Machine
-machineAtStart b f e = machineOf (startOf b) f e
+abbrev pub machineAtStart : Board → Images → Machine
+machineAtStart b x = machineOf (startOf b) x
 
 abbrev pub channelOf : Event → Channel
 channelOf (event.Flash e) = F
@@ -31,19 +31,17 @@ channelOf (event.Eeprom e) = E
 channelOf (event.Line e) = L
 
 -- the image that an event's reply is delivered from; a line record reads none
-abbrev pub imageFor : Event → Image → Image → Image
-imageFor (event.Flash e) flash eeprom = flash
-imageFor (event.Eeprom e) flash eeprom = eeprom
-imageFor (event.Line e) flash eeprom = flash
+abbrev pub imageFor : Event → Images → Image
+imageFor (event.Flash e) x = x .flash
+imageFor (event.Eeprom e) x = x .eeprom
+imageFor (event.Line e) x = x .flash
 
 unfoldable pub playOn : Board → Machine → Record → Machine
 playOn b m r =
-    machineOf (movedOf b (m .controls) r .controls)
-    (flashAfter (flashStroke (m .controls .lines) (r .event) (movedOf b (m .controls) r .reply)) (b .sector) (m .controls .flash) (m .flash))
-    (eepromAfter (eepromStroke (m .controls .lines) (r .event) (movedOf b (m .controls) r .reply)) (m .controls .eeprom) (m .eeprom))
+    machineOf (movedOf b (m .controls) r .controls) (imagesAfter b (m .controls) (r .event) (movedOf b (m .controls) r .reply) (m .images))
 
 unfoldable pub saysOn : Board → Machine → Record → Reply
-saysOn b m r = delivered (imageFor (r .event) (m .flash) (m .eeprom)) (movedOf b (m .controls) r .reply)
+saysOn b m r = delivered (imageFor (r .event) (m .images)) (movedOf b (m .controls) r .reply)
 
 -- the machine that demand 3 is about
 abbrev pub head : Board → Rules Record Machine Reply

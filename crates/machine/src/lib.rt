@@ -2,6 +2,7 @@
 ghost use mathlib.Core.Path.{_≡_};
 ghost use lib.ListN.{getD};
 ghost use Rattle.image.specs.Image.{imageOf};
+ghost use Rattle.image.specs.Images.{imagesOf};
 ghost use Rattle.machine.specs.Effects.{strokeOf, lineStroke, flashStroke, eepromStroke, flashAfter, eepromAfter, reached, flashWhole, flashCut, eepromWhole, eepromCut};
 ghost use Rattle.machine.specs.Replies.{delivered, comparedByte, comparedFlash, comparedEeprom, flashSeen, eepromSeen, compared};
 ghost use Rattle.machine.specs.Machine.{machineOf, playOn, saysOn, imageFor};
@@ -106,8 +107,8 @@ fn flash_whole(values: &mut [u8], masks: &mut [u8], watched: u8, chip: Flash)
             return;
         }
         FlashCycle::Program(n) => {
-            if n / 128 + 1 == watched as u32 {
-                image::program_page(values, masks, (n % 128) as usize, page);
+            if n / page::SECTOR_PAGES + 1 == watched as u32 {
+                image::program_page(values, masks, (n % page::SECTOR_PAGES) as usize, page);
                 return;
             }
             return;
@@ -144,8 +145,8 @@ fn flash_cut(values: &mut [u8], masks: &mut [u8], watched: u8, chip: Flash)
             return;
         }
         FlashCycle::Program(n) => {
-            if n / 128 + 1 == watched as u32 {
-                image::cut_program_page(values, masks, (n % 128) as usize, page);
+            if n / page::SECTOR_PAGES + 1 == watched as u32 {
+                image::cut_program_page(values, masks, (n % page::SECTOR_PAGES) as usize, page);
                 return;
             }
             return;
@@ -287,7 +288,7 @@ fn deliver_for(
     eeprom_mask: &[u8],
     k: Skeleton,
 ) -> Reply
-    ensures { λ r. ⌜ r ≡ delivered (imageFor event (imageOf (now (flash .entry)) (now («flash_mask» .entry))) (imageOf (now (eeprom .entry)) (now («eeprom_mask» .entry)))) k ⌝ }
+    ensures { λ r. ⌜ r ≡ delivered (imageFor event (imagesOf (now (flash .entry)) (now («flash_mask» .entry)) (now (eeprom .entry)) (now («eeprom_mask» .entry)))) k ⌝ }
 {
     match event {
         Event::Flash(_) => deliver(flash, flash_mask, k),
@@ -312,9 +313,9 @@ pub fn play(
     eeprom: &mut [u8],
     eeprom_mask: &mut [u8],
 ) -> Played
-    ensures { λ r. ⌜ machineOf (r .controls) (imageOf (now (flash .exit)) (now («flash_mask» .exit))) (imageOf (now (eeprom .exit)) (now («eeprom_mask» .exit)))
-        ≡ playOn board (machineOf controls (imageOf (now (flash .entry)) (now («flash_mask» .entry))) (imageOf (now (eeprom .entry)) (now («eeprom_mask» .entry)))) rec ⌝ }
-    ensures { λ r. ⌜ r .reply ≡ saysOn board (machineOf controls (imageOf (now (flash .entry)) (now («flash_mask» .entry))) (imageOf (now (eeprom .entry)) (now («eeprom_mask» .entry)))) rec ⌝ }
+    ensures { λ r. ⌜ machineOf (r .controls) (imagesOf (now (flash .exit)) (now («flash_mask» .exit)) (now (eeprom .exit)) (now («eeprom_mask» .exit)))
+        ≡ playOn board (machineOf controls (imagesOf (now (flash .entry)) (now («flash_mask» .entry)) (now (eeprom .entry)) (now («eeprom_mask» .entry)))) rec ⌝ }
+    ensures { λ r. ⌜ r .reply ≡ saysOn board (machineOf controls (imagesOf (now (flash .entry)) (now («flash_mask» .entry)) (now (eeprom .entry)) (now («eeprom_mask» .entry)))) rec ⌝ }
 {
     let moved = controls.play(board, rec);
     let skeleton = moved.reply;

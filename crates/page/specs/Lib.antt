@@ -1,3 +1,4 @@
--- Rolling inside a page.
+-- Pages: the chips' geometry, and rolling inside a page.
+pub mod Geometry
 pub mod Rolling
 pub mod Laws

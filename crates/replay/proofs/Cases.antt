@@ -54,8 +54,8 @@ loads-not old new = record { within = λ n e. absurd (failed-loaded e); absent =
 pub dump-sure : {old new oldMask newMask : List ℕ} {m : ℕ} {r : Loaded} → Loads old new r → r ≡ Loaded.Bytes m → newMask ≡ replicate (length oldMask) 0 → Dumps old new oldMask newMask (Taken.Bytes m)
 dump-sure {new} {m} l e f = record { within = within new m (l .within m e) .within; mask = λ n g. inl f }
 
-pub dump-none : {old new : List ℕ} (mask : List ℕ) {r : Loaded} → Loads old new r → r ≡ Loaded.Absent → 32768 ≤ length new → Dumps old new mask mask (Taken.Bytes 32768)
-dump-none {new} mask l e h = record { within = within new 32768 h .within; mask = λ n g. inr (sym (same-bytes g), l .absent e, refl) }
+pub dump-none : {old new : List ℕ} (mask : List ℕ) {r : Loaded} → Loads old new r → r ≡ Loaded.Absent → length mask ≤ length new → Dumps old new mask mask (Taken.Bytes (length mask))
+dump-none {new} mask l e h = record { within = within new (length mask) h .within; mask = λ n g. inr (sym (same-bytes g), l .absent e, refl) }
 
 pub dump-not : (old new oldMask newMask : List ℕ) → Dumps old new oldMask newMask Taken.Unreadable
 dump-not old new oldMask newMask = record { within = λ n e. absurd (not-bytes e); mask = λ n e. absurd (not-bytes e) }

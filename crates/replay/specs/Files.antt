@@ -23,7 +23,7 @@ pub record Loads (old new : List ℕ) (r : Loaded) : Type 0 where
   pub within : (n : ℕ) → r ≡ Loaded.Bytes n → n ≤ length new
   pub absent : r ≡ Loaded.Absent → new ≡ old
 
--- An image and its mask: it is a dump, which is sure; or there is none, and it is the 32,768 bytes that were lent, with the mask that was lent.
+-- An image and its mask: it is a dump, which is sure; or there is none, and it is the bytes that were lent, as many as the mask has, with the mask that was lent.
 pub record Dumps (old new oldMask newMask : List ℕ) (r : Taken) : Type 0 where
   pub within : (n : ℕ) → r ≡ Taken.Bytes n → n ≤ length new
-  pub mask : (n : ℕ) → r ≡ Taken.Bytes n → (newMask ≡ replicate (length oldMask) 0) ⊎ ((n ≡ 32768) × (new ≡ old) × (newMask ≡ oldMask))
+  pub mask : (n : ℕ) → r ≡ Taken.Bytes n → (newMask ≡ replicate (length oldMask) 0) ⊎ ((n ≡ length oldMask) × (new ≡ old) × (newMask ≡ oldMask))

@@ -102,9 +102,9 @@ fn clear(mask: &mut [u8])
     }
 }
 
-// A dump, which is taken as sure, and its length. Where there is none the image and its mask stay as they were lent, and the image has its 32,768 bytes.
+// A dump, which is taken as sure, and its length. Where there is none the image and its mask stay as they were lent, and the image has as many bytes as its mask.
 pub(crate) fn dump(path: &[u8], image: &mut [u8], mask: &mut [u8]) -> Taken
-    requires { ⌜ 32768 ≤ length (now image) ⌝ }
+    requires { ⌜ length (now mask) ≤ length (now image) ⌝ }
     ensures { λ r. ⌜ Dumps (now (image .entry)) (now (image .exit)) (now (mask .entry)) (now (mask .exit)) r ⌝ }
 {
     let loaded = load(path, image);
@@ -113,7 +113,7 @@ pub(crate) fn dump(path: &[u8], image: &mut [u8], mask: &mut [u8]) -> Taken
             clear(mask);
             Taken::Bytes(n)
         }
-        Loaded::Absent => Taken::Bytes(32768),
+        Loaded::Absent => Taken::Bytes(mask.len()),
         Loaded::Unreadable => Taken::Unreadable,
     }
 }

@@ -30,6 +30,11 @@ fn print_replay(
     }
 }
 
+// How many bytes are kept of each chip.
+const FLASH: usize = page::FLASH_SECTOR as usize;
+
+const EEPROM: usize = page::EEPROM_SIZE as usize;
+
 fn main() {
     // One byte more than a text may have is enough to know that it is too long.
     let mut text = [0u8; 65537];
@@ -37,13 +42,13 @@ fn main() {
         return;
     };
     // Without a dump all is 00 with mask ff. One byte more than an image has tells that a dump is longer.
-    let mut flash = [0u8; 32769];
-    let mut flash_mask = [255u8; 32768];
+    let mut flash = [0u8; FLASH + 1];
+    let mut flash_mask = [255u8; FLASH];
     let Taken::Bytes(flash_len) = files::dump(b"flash.bin", &mut flash, &mut flash_mask) else {
         return;
     };
-    let mut eeprom = [0u8; 32769];
-    let mut eeprom_mask = [255u8; 32768];
+    let mut eeprom = [0u8; EEPROM + 1];
+    let mut eeprom_mask = [255u8; EEPROM];
     let Taken::Bytes(eeprom_len) = files::dump(b"eeprom.bin", &mut eeprom, &mut eeprom_mask) else {
         return;
     };

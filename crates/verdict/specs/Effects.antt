@@ -32,18 +32,18 @@ use Rattle.eeprom.specs.Step as eeprom-rules
 use Rattle.eeprom.specs.Told as eeprom-told
 use Rattle.image.specs.Image.{Image}
 use Rattle.image.specs.Cycles.{programPage, cutProgramPage, eraseAll, cutEraseAll, storePage, cutStorePage}
-use Rattle.machine.specs.Effects.{strokeOf, lineStroke, sectorOfPage, flashWhole, flashCut, flashAfter, eepromWhole, eepromCut, eepromAfter}
+use Rattle.machine.specs.Effects.{strokeOf, lineStroke, sectorOfPage, inSector, flashWhole, flashCut, flashAfter, eepromWhole, eepromCut, eepromAfter}
 use Rattle.machine.specs.Replies.{delivered}
 use Rattle.verdict.specs.Sides.{flashOver, eepromOver}
 
 abbrev pub flashWholeOf : ℕ → flash-told.Running → Image → Image
-flashWholeOf w (flash-told.programs n page) i = pick (eqb (sectorOfPage n) w) (programPage (n % 128) page i) i
+flashWholeOf w (flash-told.programs n page) i = pick (eqb (sectorOfPage n) w) (programPage (inSector n) page i) i
 flashWholeOf w (flash-told.erases n) i = pick (eqb n w) (eraseAll i) i
 flashWholeOf w (flash-told.erasesAll bits) i = pick (not (sectorLocked bits w)) (eraseAll i) i
 flashWholeOf w (flash-told.setsStatus bits) i = i
 
 abbrev pub flashCutOf : ℕ → flash-told.Running → Image → Image
-flashCutOf w (flash-told.programs n page) i = pick (eqb (sectorOfPage n) w) (cutProgramPage (n % 128) page i) i
+flashCutOf w (flash-told.programs n page) i = pick (eqb (sectorOfPage n) w) (cutProgramPage (inSector n) page i) i
 flashCutOf w (flash-told.erases n) i = pick (eqb n w) (cutEraseAll i) i
 flashCutOf w (flash-told.erasesAll bits) i = pick (not (sectorLocked bits w)) (cutEraseAll i) i
 flashCutOf w (flash-told.setsStatus bits) i = i

@@ -12,7 +12,7 @@ use Rattle.record.specs.declared.Record.{Record}
 use Rattle.record.specs.declared.Answer.{Answer}
 use Rattle.record.specs.Answers.{answerNumber}
 use Rattle.field.specs.declared.Cursor.{Cursor}
-use Rattle.image.specs.Image.{Image}
+use Rattle.image.specs.Images.{Images}
 use Rattle.line.specs.Boards.{spelledBoard}
 use Rattle.text.specs.declared.checking.Checked.{Checked}
 use Rattle.text.specs.Texts.{textLimit, Readable, Refused, Checks}
@@ -22,21 +22,21 @@ use Rattle.call.specs.Replay.{Ended, endedAs, refusedAs, Replays}
 use Rattle.call.specs.Run.{endedWith, Runs}
 
 -- ---- after the loop the result is written
-pub runs-written : (text : List ℕ) (first : ℕ) (b : Board) (f e : Image) (old : List ℕ) (a : Answer) (t c n : ℕ) (f′ e′ : Image) (left res res′ : List ℕ) →
-    Runs text first b f e old (endedWith a t c f′ e′ left) → old ≡ replicate repliesLength 0 → n ≡ answerNumber a → res′ ≡ resultAfter n t c res → length res ≡ resultLength →
-    Runs text first b f e (replicate repliesLength 0) (endedAs n (record { flash = f′; eeprom = e′; replies = left; result = res′ }))
-runs-written text first b f e old a t c n f′ e′ left res res′ r z h w l =
+pub runs-written : (text : List ℕ) (first : ℕ) (b : Board) (x : Images) (old : List ℕ) (a : Answer) (t c n : ℕ) (y : Images) (left res res′ : List ℕ) →
+    Runs text first b x old (endedWith a t c y left) → old ≡ replicate repliesLength 0 → n ≡ answerNumber a → res′ ≡ resultAfter n t c res → length res ≡ resultLength →
+    Runs text first b x (replicate repliesLength 0) (endedAs n (record { images = y; replies = left; result = res′ }))
+runs-written text first b x old a t c n y left res res′ r z h w l =
     let k = w ∙ result-written n t c res l in
-    subst (λ (x : Ended). Runs text first b f e (replicate repliesLength 0) x)
-    (λ i. endedAs (sym h i) (record { flash = f′; eeprom = e′; replies = left; result = sym (k ∙ ap (λ (m : ℕ). resultBytes m t c) h) i }))
-    (subst (λ (l : List ℕ). Runs text first b f e l (endedWith a t c f′ e′ left)) z r)
+    subst (λ (k : Ended). Runs text first b x (replicate repliesLength 0) k)
+    (λ i. endedAs (sym h i) (record { images = y; replies = left; result = sym (k ∙ ap (λ (m : ℕ). resultBytes m t c) h) i }))
+    (subst (λ (l : List ℕ). Runs text first b x l (endedWith a t c y left)) z r)
 
 clash : {A : Type 0} {t : Bool} → t ≡ true → t ≡ false → A
 clash h k = absurd (true-not-false (sym h ∙ k))
 
 -- ---- refusals
 abbrev refusal : ℕ → Buffers → List ℕ → Ended
-refusal n x res = endedAs n (record { flash = x .flash; eeprom = x .eeprom; replies = x .replies; result = res })
+refusal n x res = endedAs n (record { images = x .images; replies = x .replies; result = res })
 
 refusal-is : (a : Answer) (line n : ℕ) (x : Buffers) (res : List ℕ) → n ≡ answerNumber a → res ≡ resultAfter (answerNumber a) line 0 (x .result) → refusal n x res ≡ refusedAs a line x
 unfolding refusedAs
@@ -95,7 +95,7 @@ module _ (text : List ℕ) (x : Buffers) where
         read = λ k l. checks .only;
       }
 
-      pub replays-played : (b : Board) (c : Cursor) → r ≡ Checked.Readable b c → (e : Ended) → Runs text (c .at) b (x .flash) (x .eeprom) (replicate repliesLength 0) e → Replays text x e
+      pub replays-played : (b : Board) (c : Cursor) → r ≡ Checked.Readable b c → (e : Ended) → Runs text (c .at) b (x .images) (replicate repliesLength 0) e → Replays text x e
       replays-played b c is e runs = record {
         unfit = λ k. clash fits k;
         long = λ k l. clash l short;
@@ -104,7 +104,7 @@ module _ (text : List ℕ) (x : Buffers) where
             let h = sym (checks .readable d rs q) ∙ is in
             let same-board : d ≡ b = ap (boardOf d) h in
             let same-place : length (spelledBoard d) ≡ c .at = ap placeOf h in
-            let go = subst (λ (y : Board). Runs text (c .at) y (x .flash) (x .eeprom) (replicate repliesLength 0) e) (sym same-board) runs in
+            let go = subst (λ (y : Board). Runs text (c .at) y (x .images) (replicate repliesLength 0) e) (sym same-board) runs in
             go .runs rs q (sym same-place) refl;
         read = λ k l. checks .only;
       }

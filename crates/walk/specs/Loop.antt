@@ -10,7 +10,7 @@ use Rattle.record.specs.declared.Record.{Record}
 use Rattle.record.specs.declared.Answer.{Answer}
 use Rattle.board.specs.declared.Controls.{Controls}
 use Rattle.board.specs.Play.{startOf}
-use Rattle.image.specs.Image.{Image}
+use Rattle.image.specs.Images.{Images}
 use Rattle.line.specs.Boards.{spelledBoard}
 use Rattle.orders.specs.declared.Verdict.{Verdict}
 use Rattle.orders.specs.declared.Verdict.the-variants as verdict
@@ -30,34 +30,34 @@ goes-passes verdict.Differ e = absurd (true-not-false (sym e))
 goes-passes verdict.Lost e = absurd (true-not-false (sym e))
 goes-passes verdict.Passes e = refl
 
-module _ (text : List ℕ) (first : ℕ) (b : Board) (f e : Image) (replies : List ℕ) where
+module _ (text : List ℕ) (first : ℕ) (b : Board) (x : Images) (replies : List ℕ) where
   -- the loop has come to a place, whatever the text is readable as
   unfoldable pub ComesTo : ℕ → Desk → Type 0
-  ComesTo place d = (rs : List Record) (q : Readable text b rs) → first ≡ length (spelledBoard b) → replies ≡ replicate repliesLength 0 → Reaching text b rs f e q place d
+  ComesTo place d = (rs : List Record) (q : Readable text b rs) → first ≡ length (spelledBoard b) → replies ≡ replicate repliesLength 0 → Reaching text b rs x q place d
 
-  pub comes-first : (c : Controls) → c ≡ startOf b → ComesTo first (deskOf c f e replies 0 0)
+  pub comes-first : (c : Controls) → c ≡ startOf b → ComesTo first (deskOf c x replies 0 0)
   unfolding ComesTo
   comes-first c h rs q l z =
-      subst (Reaching text b rs f e q first) (λ i. deskOf (sym h i) f e (sym z i) 0 0) (reaching-starts text b rs f e q first l)
+      subst (Reaching text b rs x q first) (λ i. deskOf (sym h i) x (sym z i) 0 0) (reaching-starts text b rs x q first l)
 
-  module _ (short : length text ≤ textLimit) (place : ℕ) (c : Controls) (f′ e′ : Image) (old : List ℕ) (number count : ℕ) (here : ComesTo place (deskOf c f′ e′ old number count)) where
-    pub runs-out : length text ≤ place → Runs text first b f e replies (endedWith Answer.Settled 0 count f′ e′ old)
+  module _ (short : length text ≤ textLimit) (place : ℕ) (c : Controls) (y : Images) (old : List ℕ) (number count : ℕ) (here : ComesTo place (deskOf c y old number count)) where
+    pub runs-out : length text ≤ place → Runs text first b x replies (endedWith Answer.Settled 0 count y old)
     unfolding ComesTo
-    runs-out l = record { runs = λ rs q h z. reaching-ends text b rs f e q (few-records q short) place _ (here rs q h z) l }
+    runs-out l = record { runs = λ rs q h z. reaching-ends text b rs x q (few-records q short) place _ (here rs q h z) l }
 
     module _ (inside : place < length text) (j : Judgement) (judges : JudgesAt text place b c j) where
-      pub runs-stops : goesOn (j .verdict) ≡ false → (a : Answer) → a ≡ stopOf (j .verdict) → Runs text first b f e replies (endedWith a (j .stamp) count f′ e′ old)
+      pub runs-stops : goesOn (j .verdict) ≡ false → (a : Answer) → a ≡ stopOf (j .verdict) → Runs text first b x replies (endedWith a (j .stamp) count y old)
       unfolding ComesTo
       runs-stops g a s = record {
         runs = λ rs q h z.
             let r = here rs q h z in
-            let x = judges .found (r .rest) (r .ok) (r .left) inside in
-            rw s (reaching-stops text b rs f e q (few-records q short) place _ r c refl j x g);
+            let k = judges .found (r .rest) (r .ok) (r .left) inside in
+            rw s (reaching-stops text b rs x q (few-records q short) place _ r c refl j k g);
       }
 
-      pub comes-next : goesOn (j .verdict) ≡ true → (d : Desk) (n : ℕ) → n ≡ min (j .count) 18 → d ≡ runDesk b (take n (j .records)) (deskOf c f′ e′ old number count) → ComesTo (j .next) d
+      pub comes-next : goesOn (j .verdict) ≡ true → (d : Desk) (n : ℕ) → n ≡ min (j .count) 18 → d ≡ runDesk b (take n (j .records)) (deskOf c y old number count) → ComesTo (j .next) d
       unfolding ComesTo
       comes-next g d n m s rs q h z =
           let r = here rs q h z in
-          let x = judges .found (r .rest) (r .ok) (r .left) inside in
-          reaching-passes text b rs f e q (few-records q short) place _ r c refl j x g d (s ∙ ap (λ (k : ℕ). runDesk b (take k (j .records)) (deskOf c f′ e′ old number count)) m)
+          let k = judges .found (r .rest) (r .ok) (r .left) inside in
+          reaching-passes text b rs x q (few-records q short) place _ r c refl j k g d (s ∙ ap (λ (w : ℕ). runDesk b (take w (j .records)) (deskOf c y old number count)) m)

@@ -23,7 +23,7 @@ use Rattle.record.specs.declared.Event.{Event}
 use Rattle.record.specs.Answers.{answerNumber}
 use Rattle.board.specs.declared.Controls.{Controls}
 use Rattle.board.specs.Play.{startOf, lostOf}
-use Rattle.image.specs.Image.{Image}
+use Rattle.image.specs.Images.{Images}
 use Rattle.line.specs.Boards.{spelledBoard}
 use Rattle.orders.specs.declared.Held.{Held}
 use Rattle.orders.specs.declared.Verdict.{Verdict}
@@ -44,12 +44,12 @@ use Rattle.call.proofs.Back.{never-back}
 use Rattle.call.proofs.Playing.{run-machine, run-append, run-count, run-replies}
 
 -- ---- what is shown of records played as they are written
-module _ (b : Board) (f e : Image) where
+module _ (b : Board) (lent : Images) where
   abbrev pub started : Desk
-  started = deskOf (startOf b) f e (replicate repliesLength 0) 0 0
+  started = deskOf (startOf b) lent (replicate repliesLength 0) 0 0
 
   abbrev pub start : Machine
-  start = machineAtStart b f e
+  start = machineAtStart b lent
 
   lines-long : (o : List Record) (s : Machine) → length (replyLines o (said (head b) o s)) ≡ 4 * length o
   unfolding replyLines said
@@ -57,7 +57,7 @@ module _ (b : Board) (f e : Image) where
   lines-long (r ∷ o) s = let ih = lines-long o (head b .play s r) in omega arith
 
   pub shows : (n t : ℕ) (o : List Record) (d : Desk) → d ≡ runDesk b o started → length o ≤ 10000 →
-      endedAs n (record { flash = d .machine .flash; eeprom = d .machine .eeprom; replies = d .replies; result = resultBytes n t (d .count) }) ≡ shownAs b n t o (outcome (head b) o start)
+      endedAs n (record { images = d .machine .images; replies = d .replies; result = resultBytes n t (d .count) }) ≡ shownAs b n t o (outcome (head b) o start)
   unfolding shownAs padded
   shows n t o d p l =
       let m : d .machine ≡ after (head b) o start = ap (λ (x : Desk). x .machine) p ∙ run-machine b o started in
@@ -70,21 +70,21 @@ module _ (b : Board) (f e : Image) where
       ∙ run-replies b o started [] (repliesLength - 4 * length o) (ap (λ (x : ℕ). replicate x 0) k) refl (length-replicate {A = ℕ} repliesLength 0) (omega arith) in
       let h = g ∙ ap (λ (x : ℕ). replyLines o (said (head b) o start) ++ replicate (repliesLength - x) 0) (sym (lines-long o start))
       ∙ ap (λ (ys : List Reply). replyLines o ys ++ replicate (repliesLength - length (replyLines o ys)) 0) y in
-      λ i. endedAs n (record { flash = m i .flash; eeprom = m i .eeprom; replies = h i; result = resultBytes n t (c i) })
+      λ i. endedAs n (record { images = m i .images; replies = h i; result = resultBytes n t (c i) })
 
 -- ---- the loop has come to the place with the desk d
-module _ (text : List ℕ) (b : Board) (rs : List Record) (f e : Image) (readable : Readable text b rs) where
+module _ (text : List ℕ) (b : Board) (rs : List Record) (lent : Images) (readable : Readable text b rs) where
   pub record Reaching (place : ℕ) (d : Desk) : Type 0 where
     pub done : List Record
     pub rest : List Record
     pub whole : rs ≡ done ++ rest
     pub ok : AllOk rest
     pub left : drop place text ≡ spelledAll rest
-    pub played : d ≡ runDesk b done (started b f e)
+    pub played : d ≡ runDesk b done (started b lent)
     pub apart : All (λ (r : Record). All (λ (s : Record). r .stamp < s .stamp) rest) done
-    pub reached : Reached (head b) rs (start b f e) rest (outcome (head b) done (start b f e))
+    pub reached : Reached (head b) rs (start b lent) rest (outcome (head b) done (start b lent))
 
-  pub reaching-starts : (place : ℕ) → place ≡ length (spelledBoard b) → Reaching place (started b f e)
+  pub reaching-starts : (place : ℕ) → place ≡ length (spelledBoard b) → Reaching place (started b lent)
   unfolding runDesk All
   reaching-starts place h = record {
     done = [];
@@ -94,12 +94,12 @@ module _ (text : List ℕ) (b : Board) (rs : List Record) (f e : Image) (readabl
     left = subst (λ (k : ℕ). drop k text ≡ spelledAll rs) (sym h) (first-place readable);
     played = refl;
     apart = tt;
-    reached = reached-start (head b) rs (start b f e) refl;
+    reached = reached-start (head b) rs (start b lent) refl;
   }
 
   -- the answer that the demand admits, and what it shows
   abbrev pub Answered : Ended → Type 0
-  Answered x = (z : meaning.Answer Machine Reply) × Means (head b) rs (start b f e) z × (x ≡ shown b rs z)
+  Answered x = (z : meaning.Answer Machine Reply) × Means (head b) rs (start b lent) z × (x ≡ shown b rs z)
 
   back : NeverBack (head b) rs
   back = never-back b 0 rs (readable .acceptable .never-back)
@@ -108,18 +108,18 @@ module _ (text : List ℕ) (b : Board) (rs : List Record) (f e : Image) (readabl
     done-few : length (r .done) ≤ 10000
     done-few = omega (arith, ap length (r .whole), length-append (r .done) (r .rest))
 
-    machine-is : d .machine ≡ after (head b) (r .done) (start b f e)
-    machine-is = ap (λ (x : Desk). x .machine) (r .played) ∙ run-machine b (r .done) (started b f e)
+    machine-is : d .machine ≡ after (head b) (r .done) (start b lent)
+    machine-is = ap (λ (x : Desk). x .machine) (r .played) ∙ run-machine b (r .done) (started b lent)
 
     -- the text ends here
-    pub reaching-ends : length text ≤ place → Answered (endedWith Answer.Settled 0 (d .count) (d .machine .flash) (d .machine .eeprom) (d .replies))
+    pub reaching-ends : length text ≤ place → Answered (endedWith Answer.Settled 0 (d .count) (d .machine .images) (d .replies))
     unfolding shown
     reaching-ends h =
         let n : r .rest ≡ [] = at-end text place (r .rest) (r .left) h (r .ok) in
         let w : rs ≡ r .done = r .whole ∙ ap (λ (l : List Record). r .done ++ l) n ∙ append-nil (r .done) in (
-          meaning.settled (outcome (head b) (r .done) (start b f e)),
-          reached-end (head b) rs (start b f e) _ (subst (λ (l : List Record). Reached (head b) rs (start b f e) l (outcome (head b) (r .done) (start b f e))) n (r .reached)),
-          shows b f e 0 0 (r .done) d (r .played) done-few ∙ ap (λ (l : List Record). shownAs b 0 0 l (outcome (head b) (r .done) (start b f e))) (sym w),
+          meaning.settled (outcome (head b) (r .done) (start b lent)),
+          reached-end (head b) rs (start b lent) _ (subst (λ (l : List Record). Reached (head b) rs (start b lent) l (outcome (head b) (r .done) (start b lent))) n (r .reached)),
+          shows b lent 0 0 (r .done) d (r .played) done-few ∙ ap (λ (l : List Record). shownAs b 0 0 l (outcome (head b) (r .done) (start b lent))) (sym w),
         )
 
     module _ (c : Controls) (here : d .machine .controls ≡ c) (j : Judgement) (x : Found text b c (r .rest) j) where
@@ -127,13 +127,13 @@ module _ (text : List ℕ) (b : Board) (rs : List Record) (f e : Image) (readabl
       p = x .first ∷ x .others
 
       abbrev m : Machine
-      m = after (head b) (r .done) (start b f e)
+      m = after (head b) (r .done) (start b lent)
 
       controls-are : c ≡ m .controls
       controls-are = sym here ∙ ap (λ (k : Machine). k .controls) machine-is
 
       good : Good (m .controls)
-      good = good-after b (r .done) (start b f e) (good-start b (readable .board .0 .0))
+      good = good-after b (r .done) (start b lent) (good-start b (readable .board .0 .0))
 
       judged : Judged b (x .held) (m .controls) (j .verdict)
       judged = subst (λ (k : Controls). Judged b (x .held) k (j .verdict)) controls-are (x .judged)
@@ -170,20 +170,20 @@ module _ (text : List ℕ) (b : Board) (rs : List Record) (f e : Image) (readabl
       sure : lostOf (m .controls) ≡ false
       sure = r .reached .sure
 
-      reached-here : Reached (head b) rs (start b f e) (p ++ x .rest) (outcome (head b) (r .done) (start b f e))
-      reached-here = subst (λ (l : List Record). Reached (head b) rs (start b f e) l (outcome (head b) (r .done) (start b f e))) (x .whole) (r .reached)
+      reached-here : Reached (head b) rs (start b lent) (p ++ x .rest) (outcome (head b) (r .done) (start b lent))
+      reached-here = subst (λ (l : List Record). Reached (head b) rs (start b lent) l (outcome (head b) (r .done) (start b lent))) (x .whole) (r .reached)
 
       stops : (n : Reason) → Means (head b) (p ++ x .rest) m (meaning.stopped n (j .stamp) (outcome (head b) [] m)) →
-          Answered (endedWith (reasonAnswer n) (j .stamp) (d .count) (d .machine .flash) (d .machine .eeprom) (d .replies))
+          Answered (endedWith (reasonAnswer n) (j .stamp) (d .count) (d .machine .images) (d .replies))
       unfolding shown
       stops n h = (
-        meaning.stopped n (j .stamp) (outcome (head b) (r .done) (start b f e)),
-        reached-stop (head b) rs (start b f e) (p ++ x .rest) _ reached-here n (j .stamp) h,
-        shows b f e (answerNumber (reasonAnswer n)) (j .stamp) (r .done) d (r .played) done-few
-            ∙ ap (λ (l : List Record). shownAs b (answerNumber (reasonAnswer n)) (j .stamp) l (outcome (head b) (r .done) (start b f e))) (sym before-is),
+        meaning.stopped n (j .stamp) (outcome (head b) (r .done) (start b lent)),
+        reached-stop (head b) rs (start b lent) (p ++ x .rest) _ reached-here n (j .stamp) h,
+        shows b lent (answerNumber (reasonAnswer n)) (j .stamp) (r .done) d (r .played) done-few
+            ∙ ap (λ (l : List Record). shownAs b (answerNumber (reasonAnswer n)) (j .stamp) l (outcome (head b) (r .done) (start b lent))) (sym before-is),
       )
 
-      stops-by : (v : Verdict) → Judged b (x .held) (m .controls) v → goesOn v ≡ false → Answered (endedWith (stopOf v) (j .stamp) (d .count) (d .machine .flash) (d .machine .eeprom) (d .replies))
+      stops-by : (v : Verdict) → Judged b (x .held) (m .controls) v → goesOn v ≡ false → Answered (endedWith (stopOf v) (j .stamp) (d .count) (d .machine .images) (d .replies))
       unfolding Judged
       stops-by verdict.Crowded k g =
           stops crowded (means-crowded (head b) p (x .rest) (j .stamp) (x .same) higher m sure (too-many b (x .held) p (x .rest) (j .stamp) (x .holds) (x .same) higher k))
@@ -200,7 +200,7 @@ module _ (text : List ℕ) (b : Board) (rs : List Record) (f e : Image) (readabl
       stops-by verdict.Passes k g = absurd (true-not-false g)
 
       -- the stamp stops the replay
-      pub reaching-stops : goesOn (j .verdict) ≡ false → Answered (endedWith (stopOf (j .verdict)) (j .stamp) (d .count) (d .machine .flash) (d .machine .eeprom) (d .replies))
+      pub reaching-stops : goesOn (j .verdict) ≡ false → Answered (endedWith (stopOf (j .verdict)) (j .stamp) (d .count) (d .machine .images) (d .replies))
       reaching-stops g = stops-by (j .verdict) judged g
 
       -- ---- the stamp passes
@@ -237,11 +237,11 @@ module _ (text : List ℕ) (b : Board) (rs : List Record) (f e : Image) (readabl
             whole = r .whole ∙ ap (λ (l : List Record). r .done ++ l) (x .whole) ∙ sym (append-assoc (r .done) p (x .rest));
             ok = x .ok;
             left = x .left;
-            played = q ∙ ap₂ (λ (l : List Record) (y : Desk). runDesk b l y) (written-is (k .0)) (r .played) ∙ sym (run-append b (r .done) p (started b f e));
+            played = q ∙ ap₂ (λ (l : List Record) (y : Desk). runDesk b l y) (written-is (k .0)) (r .played) ∙ sym (run-append b (r .done) p (started b lent));
             apart = apart-next;
             reached =
-                subst (Reached (head b) rs (start b f e) (x .rest)) (sym (outcome-append (head b) (r .done) p (start b f e)))
-                (reached-stamp (head b) rs (start b f e) p (x .rest) (j .stamp) _ reached-here (x .same) higher
+                subst (Reached (head b) rs (start b lent) (x .rest)) (sym (outcome-append (head b) (r .done) p (start b lent)))
+                (reached-stamp (head b) rs (start b lent) p (x .rest) (j .stamp) _ reached-here (x .same) higher
                 (not-crowded b (x .held) p (x .rest) (j .stamp) (x .holds) (x .same) higher (k .0)) a p (as-written b (x .held) p (x .rest) (j .stamp) (x .holds) (x .same) higher m good (k .0)) kept);
           }
 

@@ -3,7 +3,9 @@ use mathlib.Core.Path.{sym, _∙_}
 use borrow.Author.Tests.{not-true, not-false}
 use Rattle.law.specs.Choice.{via}
 use Rattle.image.specs.Image.{imageOf}
-use Rattle.image.proofs.Fitting.{fits-values, fits-masks}
+use Rattle.image.specs.declared.view.Chip.{Chip}
+use Rattle.image.specs.Images.{keptBytes}
+use Rattle.image.proofs.Fitting.{spans-values, spans-masks}
 use Rattle.buffers.specs.Buffers.{fit}
 use borrow.Author.Tests.{eq-eqb, ne-eqb}
 use borrow.Author.Needs.{needs}
@@ -48,7 +50,7 @@ is-clear-requires c κs =
     let a = c .before .before .before .before .before .before .before .before .before .before .before .before .args in
     let i = imageOf (a .flash .now) (a .flash-mask .now) in
     let t = via (c .before .before .before .before .before .image-fits .ensures) (not-false _ (c .before .before .before .before .if1 .left)) in
-    fits-masks i t ∙ sym (fits-values i t)
+    spans-masks i (keptBytes Chip.Flash) t ∙ sym (spans-values i (keptBytes Chip.Flash) t)
 
 returns-5 : tie.Need-returns-5
 unfolding fit
@@ -66,7 +68,7 @@ is-clear-requires-2 c κs =
     let a = c .before .before .before .before .before .before .before .before .before .before .before .before .before .before .args in
     let i = imageOf (a .eeprom .now) (a .eeprom-mask .now) in
     let t = via (c .before .before .before .before .before .image-fits2 .ensures) (not-false _ (c .before .before .before .before .if2 .left)) in
-    fits-masks i t ∙ sym (fits-values i t)
+    spans-masks i (keptBytes Chip.Eeprom) t ∙ sym (spans-values i (keptBytes Chip.Eeprom) t)
 
 returns-6 : tie.Need-returns-6
 unfolding fit

@@ -3,7 +3,7 @@ use native.Mathlib.Omega.{arith}
 use Prim.Native.Nat.{_+_, _-_, _≤_}
 use mathlib.Core.Path.{_≡_, refl}
 use lib.ListN.{length, take, drop}
-use Rattle.image.specs.Image.{imageOf}
+use Rattle.image.specs.Images.{imagesOf}
 use Rattle.call.specs.Play.{deskOf, runDesk}
 use Rattle.call.proofs.Playing.{turn, turned}
 use Rattle.desk.proofs.play_all.Statement.{statement}
@@ -16,8 +16,8 @@ abbrev Inv-loop : tie.InvT-loop
 Inv-loop board many number count flash₀ flash-mask₀ eeprom₀ eeprom-mask₀ replies₀ records cur₀ c₀ k₀ flash flash-mask eeprom eeprom-mask replies cur c k =
     (k ≤ many) × (c ≤ count + k) × (length flash ≡ length flash₀) × (length flash-mask ≡ length flash-mask₀) × (length eeprom ≡ length eeprom₀)
     × (length eeprom-mask ≡ length eeprom-mask₀) × (length replies ≡ length replies₀)
-    × (runDesk board (drop k (take many records)) (deskOf cur (imageOf flash flash-mask) (imageOf eeprom eeprom-mask) replies (number + k) c)
-    ≡ runDesk board (take many records) (deskOf cur₀ (imageOf flash₀ flash-mask₀) (imageOf eeprom₀ eeprom-mask₀) replies₀ number count))
+    × (runDesk board (drop k (take many records)) (deskOf cur (imagesOf flash flash-mask eeprom eeprom-mask) replies (number + k) c)
+    ≡ runDesk board (take many records) (deskOf cur₀ (imagesOf flash₀ flash-mask₀ eeprom₀ eeprom-mask₀) replies₀ number count))
 
 abbrev μ-loop : tie.MeasureT-loop
 μ-loop board many number count flash₀ flash-mask₀ eeprom₀ eeprom-mask₀ replies₀ records cur₀ c₀ k₀ flash flash-mask eeprom eeprom-mask replies cur c k = many - k

@@ -44,7 +44,7 @@ returns : tie.Need-returns
 returns c =
     let p = c .before .before .before .before .before .before .before .before .before .before .before .before .before .before .before .play .ensures in
     let l = two-most (c .before .before .before .before .before .compare .result) in (
-      played-one _ _ _ _ _ _ _ _ _ _ _ _ _ _ _ (p .0) (p .1) (c .before .before .before .before .before .compare .ensures) (c .before .before .before .put-reply .ensures) (c .two .ensures),
+      played-one _ _ _ _ _ _ _ _ _ _ _ _ _ (p .0) (p .1) (c .before .before .before .before .before .compare .ensures) (c .before .before .before .put-reply .ensures) (c .two .ensures),
       omega (arith, c .two .ensures, l),
     )
 

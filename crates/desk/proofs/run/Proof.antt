@@ -5,7 +5,7 @@ use Prim.Native.Nat.{ℕ, _*_, _-_, _≤_}
 use mathlib.Core.Path.{_≡_, refl, subst}
 use lib.ListN.{length, take}
 use Rattle.law.specs.Choice.{via}
-use Rattle.image.specs.Image.{imageOf}
+use Rattle.image.specs.Images.{imagesOf}
 use Rattle.call.specs.Play.{deskOf, runDesk}
 use Rattle.walk.specs.Loop.{ComesTo, comes-first, comes-next, runs-stops, runs-out, goes-passes}
 use Rattle.desk.proofs.run.Statement.{statement}
@@ -23,8 +23,8 @@ abbrev Inv-loop : tie.InvT-loop
 Inv-loop text first board flash₀ flash-mask₀ eeprom₀ eeprom-mask₀ replies₀ cur₀ place₀ number₀ count₀ flash flash-mask eeprom eeprom-mask replies cur place number count =
     (number ≤ 3 * place) × (count ≤ 3 * place) × (length flash ≡ length flash₀) × (length flash-mask ≡ length flash-mask₀) × (length eeprom ≡ length eeprom₀)
     × (length eeprom-mask ≡ length eeprom-mask₀) × (length replies ≡ length replies₀)
-    × ComesTo text first board (imageOf flash₀ flash-mask₀) (imageOf eeprom₀ eeprom-mask₀) replies₀ place
-    (deskOf cur (imageOf flash flash-mask) (imageOf eeprom eeprom-mask) replies number count)
+    × ComesTo text first board (imagesOf flash₀ flash-mask₀ eeprom₀ eeprom-mask₀) replies₀ place
+    (deskOf cur (imagesOf flash flash-mask eeprom eeprom-mask) replies number count)
 
 abbrev μ-loop : tie.MeasureT-loop
 μ-loop text first board flash₀ flash-mask₀ eeprom₀ eeprom-mask₀ replies₀ cur₀ place₀ number₀ count₀ flash flash-mask eeprom eeprom-mask replies cur place number count = length text - place
@@ -33,7 +33,7 @@ start-requires : tie.Need-start-requires Inv-loop μ-loop
 start-requires c κs = search needs
 
 loop-holds : tie.Need-loop-holds Inv-loop μ-loop
-loop-holds c = (omega arith, omega arith, refl, refl, refl, refl, refl, comes-first _ _ _ _ _ _ _ (c .start .ensures))
+loop-holds c = (omega arith, omega arith, refl, refl, refl, refl, refl, comes-first _ _ _ _ _ _ (c .start .ensures))
 
 judge-at-requires : tie.Need-judge-at-requires Inv-loop μ-loop
 judge-at-requires c κs = search needs
@@ -61,7 +61,7 @@ same-length-5 c = omega arith
 
 returns : tie.Need-returns Inv-loop μ-loop
 returns c =
-    runs-stops _ _ _ _ _ _ (c .before .before .before .before .before .before .before .before .before .before .before .before .before .pre) _ _ _ _ _ _ _ (c .before .before .before .before .before .loop .inv .7) (c .before .before .before .before .loop-test .taken) _ (c .before .before .before .judge-at .ensures)
+    runs-stops _ _ _ _ _ (c .before .before .before .before .before .before .before .before .before .before .before .before .before .pre) _ _ _ _ _ _ (c .before .before .before .before .before .loop .inv .7) (c .before .before .before .before .loop-test .taken) _ (c .before .before .before .judge-at .ensures)
     (via (c .before .before .passes .ensures) (not-true _ (c .before .if1 .taken))) _ (c .stop-of .ensures)
 
 at-most-requires : tie.Need-at-most-requires Inv-loop μ-loop
@@ -93,7 +93,7 @@ loop-again c =
       omega arith,
       omega arith,
       omega arith,
-      comes-next _ _ _ _ _ _ (c .before .before .before .before .before .before .before .before .before .before .before .before .before .before .before .before .before .before .before .before .before .before .before .before .before .before .before .before .before .before .before .pre) _ _ _ _ _ _ _ (i .7) (c .before .before .before .before .before .before .before .before .before .before .before .before .before .before .before .before .before .before .before .before .before .before .loop-test .taken) _ (c .before .before .before .before .before .before .before .before .before .before .before .before .before .before .before .before .before .before .before .before .before .judge-at .ensures) g _ _
+      comes-next _ _ _ _ _ (c .before .before .before .before .before .before .before .before .before .before .before .before .before .before .before .before .before .before .before .before .before .before .before .before .before .before .before .before .before .before .before .pre) _ _ _ _ _ _ (i .7) (c .before .before .before .before .before .before .before .before .before .before .before .before .before .before .before .before .before .before .before .before .before .before .loop-test .taken) _ (c .before .before .before .before .before .before .before .before .before .before .before .before .before .before .before .before .before .before .before .before .before .judge-at .ensures) g _ _
           (c .before .before .before .before .before .before .before .before .before .before .before .before .before .before .before .before .before .at-most .ensures) (p .0),
     )
 
@@ -113,7 +113,7 @@ same-length-10 : tie.Need-same-length-10 Inv-loop μ-loop
 same-length-10 c = omega arith
 
 returns-2 : tie.Need-returns-2 Inv-loop μ-loop
-returns-2 c = runs-out _ _ _ _ _ _ (c .before .before .before .before .before .before .before .before .before .pre) _ _ _ _ _ _ _ (c .before .loop .inv .7) (c .loop-test .left)
+returns-2 c = runs-out _ _ _ _ _ (c .before .before .before .before .before .before .before .before .before .pre) _ _ _ _ _ _ (c .before .loop .inv .7) (c .loop-test .left)
 
 pub run-spec : {M : Type 1} → statement M
 run-spec =

@@ -5,7 +5,7 @@ use native.Mathlib.Nat.{le-div-iff-mul-le}
 use lib.ListN.{length}
 use Rattle.image.specs.Image.{imageOf, inPage}
 use Rattle.image.specs.Cycles.{changedPlace}
-use Rattle.image.proofs.Fitting.{lengths-fit, values-unfit, masks-unfit, on-fit, on-unfit, page-there, page-none}
+use Rattle.image.proofs.Fitting.{lengths-fit, lengths-unfit, on-fit, on-unfit, page-there, page-none}
 use borrow.Author.Needs.{needs}
 use Rattle.image.proofs.change_page.Statement.{statement}
 use Rattle.image.proofs.change_page.Tie as tie
@@ -17,16 +17,14 @@ returns : tie.Need-returns
 returns c = let s = c .before .before .before .before .args in sym (page-none (imageOf (s .values .now) (s .masks .now)) (length (s .bytes .now)) (s .number) (changedPlace (s .how) (s .bytes .now)) (c .if1 .taken))
 
 returns-2 : tie.Need-returns-2
-returns-2 c = let s = c .before .before .before .before .before .args in sym (page-there (imageOf (s .values .now) (s .masks .now)) (length (s .bytes .now)) (s .number) (changedPlace (s .how) (s .bytes .now)) (c .before .if1 .left) ∙ on-unfit (imageOf (s .values .now) (s .masks .now)) (inPage (length (s .bytes .now)) (s .number) (changedPlace (s .how) (s .bytes .now))) (values-unfit (imageOf (s .values .now) (s .masks .now)) (c .if2 .taken)))
-
-returns-3 : tie.Need-returns-3
-returns-3 c = let s = c .before .before .before .before .before .before .args in sym (page-there (imageOf (s .values .now) (s .masks .now)) (length (s .bytes .now)) (s .number) (changedPlace (s .how) (s .bytes .now)) (c .before .before .if1 .left) ∙ on-unfit (imageOf (s .values .now) (s .masks .now)) (inPage (length (s .bytes .now)) (s .number) (changedPlace (s .how) (s .bytes .now))) (masks-unfit (imageOf (s .values .now) (s .masks .now)) (c .before .if2 .left) (c .if3 .taken)))
+returns-2 c = let s = c .before .before .before .before .before .args in sym (page-there (imageOf (s .values .now) (s .masks .now)) (length (s .bytes .now)) (s .number) (changedPlace (s .how) (s .bytes .now)) (c .before .if1 .left) ∙ on-unfit (imageOf (s .values .now) (s .masks .now)) (inPage (length (s .bytes .now)) (s .number) (changedPlace (s .how) (s .bytes .now))) (lengths-unfit (imageOf (s .values .now) (s .masks .now)) (c .if2 .taken)))
 
 change-places-requires : tie.Need-change-places-requires
 change-places-requires c κs =
-    let z : 0 < length (c .before .before .before .before .before .before .before .before .args .bytes .now) = omega arith in
-    let l : c .before .before .before .before .before .before .before .before .args .number + 1 ≤ 32768 / length (c .before .before .before .before .before .before .before .before .args .bytes .now) = omega arith in
-    (c .before .before .before .if2 .left, c .before .before .if3 .left, z, c .before .before .before .before .before .before .before .before .pre .1, omega (arith, le-div-iff-mul-le z .0 l))
+    let s = c .before .before .before .before .before .before .before .args in
+    let z : 0 < length (s .bytes .now) = omega arith in
+    let l : s .number + 1 ≤ length (s .values .now) / length (s .bytes .now) = omega arith in
+    (c .before .before .if2 .left, z, c .before .before .before .before .before .before .before .pre .1, omega (arith, le-div-iff-mul-le z .0 l))
 
 same-length : tie.Need-same-length
 same-length c = search needs
@@ -34,11 +32,11 @@ same-length c = search needs
 same-length-2 : tie.Need-same-length-2
 same-length-2 c = search needs
 
-returns-4 : tie.Need-returns-4
-returns-4 c =
-    let s = c .before .before .before .before .before .before .before .before .before .before .before .before .before .args in
+returns-3 : tie.Need-returns-3
+returns-3 c =
+    let s = c .before .before .before .before .before .before .before .before .before .before .before .before .args in
     c .before .before .before .before .change-places .ensures
-    ∙ sym (page-there (imageOf (s .values .now) (s .masks .now)) (length (s .bytes .now)) (s .number) (changedPlace (s .how) (s .bytes .now)) (c .before .before .before .before .before .before .before .before .before .if1 .left) ∙ on-fit (imageOf (s .values .now) (s .masks .now)) (inPage (length (s .bytes .now)) (s .number) (changedPlace (s .how) (s .bytes .now))) (lengths-fit (imageOf (s .values .now) (s .masks .now)) (c .before .before .before .before .before .before .before .before .if2 .left) (c .before .before .before .before .before .before .before .if3 .left)))
+    ∙ sym (page-there (imageOf (s .values .now) (s .masks .now)) (length (s .bytes .now)) (s .number) (changedPlace (s .how) (s .bytes .now)) (c .before .before .before .before .before .before .before .before .if1 .left) ∙ on-fit (imageOf (s .values .now) (s .masks .now)) (inPage (length (s .bytes .now)) (s .number) (changedPlace (s .how) (s .bytes .now))) (lengths-fit (imageOf (s .values .now) (s .masks .now)) (c .before .before .before .before .before .before .before .if2 .left)))
 
 pub change-page-spec : {M : Type 1} → statement M
 change-page-spec =
@@ -47,8 +45,7 @@ change-page-spec =
     div-if1
     returns
     returns-2
-    returns-3
     change-places-requires
     same-length
     same-length-2
-    returns-4)
+    returns-3)

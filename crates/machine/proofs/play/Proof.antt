@@ -43,8 +43,8 @@ same-length-4 c = search needs
 
 returns : tie.Need-returns
 returns c = (
-  played _ _ _ _ _ _ (c .before .before .before .before .before .before .before .before .before .before .before .before .before .before .before .before .before .before .before .before .before .before .before .before .before .play .ensures) _ _ _ _ (c .before .before .before .before .before .before .before .before .before .before .before .before .before .before .before .before .flash-stroke .ensures) (c .before .before .before .before .before .before .before .before .before .before .before .before .before .change-flash .ensures) (c .before .before .before .before .before .before .before .eeprom-stroke .ensures) (c .before .before .before .before .change-eeprom .ensures),
-  said _ _ _ _ _ _ (c .before .before .before .before .before .before .before .before .before .before .before .before .before .before .before .before .before .before .before .before .before .before .before .before .before .play .ensures) _ (c .before .before .before .before .before .before .before .before .before .before .before .before .before .before .before .before .before .before .deliver-for .ensures),
+  played _ _ _ _ _ (c .before .before .before .before .before .before .before .before .before .before .before .before .before .before .before .before .before .before .before .before .before .before .before .before .before .play .ensures) _ _ _ (c .before .before .before .before .before .before .before .before .before .before .before .before .before .before .before .before .flash-stroke .ensures) (c .before .before .before .before .before .before .before .before .before .before .before .before .before .change-flash .ensures) (c .before .before .before .before .before .before .before .eeprom-stroke .ensures) (c .before .before .before .before .change-eeprom .ensures),
+  said _ _ _ _ _ (c .before .before .before .before .before .before .before .before .before .before .before .before .before .before .before .before .before .before .before .before .before .before .before .before .before .play .ensures) _ (c .before .before .before .before .before .before .before .before .before .before .before .before .before .before .before .before .before .before .deliver-for .ensures),
 )
 
 pub play-spec : {M : Type 1} → statement M

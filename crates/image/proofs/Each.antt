@@ -1,0 +1,27 @@
+-- What is said of every chip, or of every chip's image, chip by chip. Assumes nothing.
+use mathlib.Core.Path.{_≡_}
+use mathlib.Core.Bool.{Bool, true}
+use Rattle.law.specs.Choice.{both}
+use Rattle.image.specs.declared.view.Chip.{Chip}
+use Rattle.image.specs.declared.view.Chip.the-variants.{Flash, Eeprom}
+use Rattle.image.specs.Image.{Image}
+use Rattle.image.specs.Images.{Images, imageAt, everyChip, every}
+
+module _ (test : Chip → Bool) where
+  pub chip-by-chip : everyChip test ≡ true → (chip : Chip) → test chip ≡ true
+  chip-by-chip e Flash = both (test Flash) (test Eeprom) e .0
+  chip-by-chip e Eeprom = both (test Flash) (test Eeprom) e .1
+
+  pub all-chips : ((chip : Chip) → test chip ≡ true) → everyChip test ≡ true
+  all-chips h = rw (h Flash, h Eeprom)
+
+module _ (test : Chip → Image → Bool) (x : Images) where
+  pub every-each : every test x ≡ true → (chip : Chip) → test chip (imageAt chip x) ≡ true
+  every-each = chip-by-chip (λ chip. test chip (imageAt chip x))
+
+  pub each-every : ((chip : Chip) → test chip (imageAt chip x) ≡ true) → every test x ≡ true
+  each-every = all-chips (λ chip. test chip (imageAt chip x))
+
+-- images are equal where each chip's are
+pub same-images : (x y : Images) → ((chip : Chip) → imageAt chip x ≡ imageAt chip y) → x ≡ y
+same-images x y h = λ i. record { flash = h Flash i; eeprom = h Eeprom i }
