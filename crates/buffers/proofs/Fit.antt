@@ -7,7 +7,8 @@ use lib.ListN.{length}
 use Rattle.law.specs.Choice.{pick, both}
 use Rattle.image.specs.Images.{imageAt, every, Kept, AllClean}
 use Rattle.image.proofs.Each.{every-each, each-every}
-use Rattle.buffers.specs.Buffers.{Buffers, repliesLength, resultLength, isKept, isClear, fit}
+use Rattle.record.specs.Lengths.{repliesLength, resultLength}
+use Rattle.buffers.specs.Buffers.{Buffers, isKept, isClear, fit}
 use Rattle.buffers.proofs.Clear.{clear-clean, clean-clear}
 
 -- every length is right, and in each image no bit is set in both value and mask

@@ -1,23 +1,16 @@
 -- How the replies stand: one after the other, with zeros behind the last. Assumes nothing.
-use mathlib.Core.Path.{_≡_, refl, sym, ap, ap₂, _∙_}
+use mathlib.Core.Path.{_≡_, sym, ap, ap₂, _∙_}
 use mathlib.Core.List.{List, [], _∷_, _++_}
 use Prim.Native.Nat.{ℕ, suc, _+_, _*_, _<_}
 use native.Mathlib.Omega.{arith}
 use borrow.Author.Tests.{eq-eqb, lt-ltb}
-use lib.Dec.{eqb, ltb}
 use lib.ListN.{length, take, drop, replicate}
-use lib.Seq.{sets, sets-eq, length-sets, take-at, drop-append-add}
-use Rattle.law.specs.Choice.{pick, of-both}
+use lib.Seq.{sets, sets-eq, take-at, drop-append-add}
 use Rattle.record.specs.declared.Reply.{Reply}
 use Rattle.record.specs.declared.Match.{Match}
 use Rattle.record.specs.Replies.{replyKind, replyValue, replyMask, matchNumber, replyBytes}
-use Rattle.buffers.specs.Buffers.{repliesLength, replyPlaces, repliesWith}
-
-pub length-repliesWith : (number : ℕ) (four old : List ℕ) → length (repliesWith number four old) ≡ length old
-unfolding repliesWith
-length-repliesWith number four old =
-    of-both (λ (l : List ℕ). length l ≡ length old) (ltb number replyPlaces) (pick (eqb (length old) repliesLength) (sets old (4 * number) four) old) old
-    (of-both (λ (l : List ℕ). length l ≡ length old) (eqb (length old) repliesLength) (sets old (4 * number) four) old (length-sets old (4 * number) four) refl) refl
+use Rattle.record.specs.Lengths.{repliesLength, replyPlaces}
+use Rattle.buffers.specs.Buffers.{repliesWith}
 
 pub reply-put : (number : ℕ) (four old : List ℕ) → number < replyPlaces → length old ≡ repliesLength → repliesWith number four old ≡ sets old (4 * number) four
 unfolding repliesWith

@@ -1,16 +1,13 @@
--- The result's length, and a run of stores over the whole of it. Assumes nothing.
-use mathlib.Core.Path.{_≡_, refl, ap, _∙_}
+-- A run of stores over the whole result. Assumes nothing.
+use mathlib.Core.Path.{_≡_, ap, _∙_}
 use mathlib.Core.List.{List, _++_, append-nil}
 use Prim.Native.Nat.{ℕ, _+_}
 use native.Mathlib.Omega.{arith}
 use borrow.Author.Tests.{eq-eqb}
 use lib.ListN.{length, drop-of-length-le}
 use lib.Seq.{sets, sets-eq}
-use Rattle.buffers.specs.Buffers.{resultLength, word, resultBytes, resultAfter}
-
-pub length-resultBytes : (answer number count : ℕ) → length (resultBytes answer number count) ≡ resultLength
-unfolding resultBytes
-length-resultBytes answer number count = refl
+use Rattle.record.specs.Lengths.{resultLength}
+use Rattle.buffers.specs.Buffers.{word, resultBytes, resultAfter}
 
 all-set : (vs l : List ℕ) → length l ≡ length vs → sets l 0 vs ≡ vs
 all-set vs l e =

@@ -7,7 +7,8 @@ use lib.Dec.{eqb, ltb}
 use lib.ListN.{length}
 use lib.Seq.{sets}
 use Rattle.law.specs.Choice.{pick}
-use Rattle.image.specs.declared.view.Chip.{Chip}
+use Rattle.record.specs.declared.Chip.{Chip}
+use Rattle.record.specs.Lengths.{repliesLength, resultLength, replyPlaces}
 use Rattle.image.specs.Image.{Image, spans}
 use Rattle.image.specs.Images.{Images, imagesOf, every, keptBytes}
 
@@ -21,13 +22,6 @@ pub record Buffers : Type 0 where
 abbrev pub buffersOf : List ℕ → List ℕ → List ℕ → List ℕ → List ℕ → List ℕ → Buffers
 buffersOf fv fm ev em replies result =
     record { images = imagesOf fv fm ev em; replies = replies; result = result }
-
--- refusal 1: 'replies are not 40,000, result not 12'
-abbrev pub repliesLength : ℕ
-repliesLength = 40000
-
-abbrev pub resultLength : ℕ
-resultLength = 12
 
 -- refusal 1: 'a bit is set in both'. Here none is, place by place
 unfoldable pub clear : List ℕ → List ℕ → Bool
@@ -61,10 +55,6 @@ resultBytes answer number count = word answer ++ (word number ++ word count)
 -- 'with a wrong length nothing is written there'
 unfoldable pub resultAfter : ℕ → ℕ → ℕ → List ℕ → List ℕ
 resultAfter answer number count old = pick (eqb (length old) resultLength) (resultBytes answer number count) old
-
--- how many replies have a place: 'each record has four reply bytes', and repliesLength is all there is
-abbrev pub replyPlaces : ℕ
-replyPlaces = 10000
 
 -- the four bytes of record `number`, counted from 0, put at their place; one that has no place, and replies of another length, change nothing
 unfoldable pub repliesWith : ℕ → List ℕ → List ℕ → List ℕ

@@ -9,17 +9,9 @@ ghost use Rattle.record.specs.Replies.{replyBytes};
 ghost use Rattle.image.specs.Image.{imageOf, spans};
 ghost use Rattle.image.specs.Images.{keptBytes};
 ghost use Rattle.buffers.specs.Buffers.{buffersOf, clear, fit, word, resultAfter, repliesWith};
-use image::view::Chip;
+use record::Chip;
 use record::Match;
 use record::Reply;
-
-// How many bytes the replies take, and the result.
-const REPLIES: usize = 40000;
-
-const RESULT: usize = 12;
-
-// How many replies have a place.
-const PLACES: usize = 10000;
 
 // None of the grounds of refusal 1 holds.
 pub fn fits_all(
@@ -38,10 +30,10 @@ pub fn fits_all(
     if !image_fits(Chip::Eeprom, eeprom, eeprom_mask) {
         return false;
     }
-    if replies.len() != REPLIES {
+    if replies.len() != record::REPLIES {
         return false;
     }
-    if result.len() != RESULT {
+    if result.len() != record::RESULT {
         return false;
     }
     if !is_clear(flash, flash_mask) {
@@ -54,7 +46,7 @@ pub fn fits_all(
 fn image_fits(chip: Chip, values: &[u8], masks: &[u8]) -> bool
     ensures { λ r. ⌜ r ≡ spans (keptBytes chip) (imageOf (now (values .entry)) (now (masks .entry))) ⌝ }
 {
-    let kept = image::view::kept_bytes(chip);
+    let kept = image::kept_bytes(chip);
     if values.len() != kept {
         return false;
     }
@@ -80,7 +72,7 @@ fn is_clear(values: &[u8], masks: &[u8]) -> bool
 pub fn put_result(result: &mut [u8], answer: u32, number: usize, count: u32)
     ensures { λ _. ⌜ now (result .exit) ≡ resultAfter answer number count (now (result .entry)) ⌝ }
 {
-    if result.len() != RESULT {
+    if result.len() != record::RESULT {
         return;
     }
     put_word(result, 0, answer as usize);
@@ -103,10 +95,10 @@ pub fn clear_replies(replies: &mut [u8])
 pub fn put_reply(replies: &mut [u8], number: usize, reply: Reply, m: Match)
     ensures { λ _. ⌜ now (replies .exit) ≡ repliesWith number (replyBytes reply m) (now (replies .entry)) ⌝ }
 {
-    if PLACES <= number {
+    if record::REPLY_PLACES <= number {
         return;
     }
-    if replies.len() != REPLIES {
+    if replies.len() != record::REPLIES {
         return;
     }
     put_four(

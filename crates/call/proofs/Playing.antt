@@ -1,7 +1,7 @@
--- What records played as they are written leave on the desk: the head after them, their replies in turn, and how many disagree.
-use mathlib.Core.Path.{_≡_, refl, sym, ap, ap₂, subst, _∙_}
-use mathlib.Core.List.{List, [], _∷_, _++_, append-assoc, append-nil}
-use Prim.Native.Nat.{ℕ, suc, _+_, _-_, _*_, _≤_, _<_}
+-- What records played as they are written leave on the desk: the machine after them, their replies in turn, and how many disagree.
+use mathlib.Core.Path.{_≡_, refl, sym, ap, ap₂, _∙_}
+use mathlib.Core.List.{List, [], _∷_, _++_, append-assoc}
+use Prim.Native.Nat.{ℕ, _+_, _*_, _≤_, _<_}
 use native.Mathlib.Omega.{arith}
 use lib.ListN.{length, replicate, take, drop, getD, length-append, length-replicate}
 use Rattle.meaning.specs.Meaning.{after}
@@ -13,14 +13,15 @@ use Rattle.record.specs.declared.Match.{Match}
 use Rattle.record.specs.declared.Match.the-variants.{Nothing, Agrees, Disagrees}
 use Rattle.record.specs.Replies.{replyBytes}
 use Rattle.law.specs.Rest.{rest-cons, rest-nil}
-use Rattle.board.specs.declared.Controls.{Controls}
+use Rattle.controls.specs.declared.Controls.{Controls}
 use Rattle.image.specs.Images.{Images}
 use Rattle.machine.specs.Replies.{compared}
-use Rattle.machine.specs.Machine.{Machine, machineOf, head, playOn, saysOn}
-use Rattle.buffers.specs.Buffers.{repliesLength, repliesWith}
+use Rattle.machine.specs.Machine.{machineOf, onMachine, playOn, saysOn}
+use Rattle.record.specs.Lengths.{repliesLength, replyPlaces}
+use Rattle.buffers.specs.Buffers.{repliesWith}
 use Rattle.buffers.proofs.Replies.{reply-next}
 use Rattle.call.specs.Play.{twos, replyLine, Desk, deskOf, stepDesk, runDesk}
-use Rattle.call.specs.Replay.{replyLines, countTwos, padded}
+use Rattle.call.specs.Replay.{replyLines, countTwos}
 
 -- a match counts one at the most
 pub two-most : (m : Match) → twos m ≤ 1
@@ -50,7 +51,7 @@ module _ (b : Board) where
   unfolding runDesk
   turned records many k d₀ d l h q = rw (rest-nil records many k l h) at q
 
-  pub run-machine : (o : List Record) (d : Desk) → runDesk b o d .machine ≡ after (head b) o (d .machine)
+  pub run-machine : (o : List Record) (d : Desk) → runDesk b o d .machine ≡ after (onMachine b) o (d .machine)
   unfolding runDesk stepDesk after
   run-machine [] d = refl
   run-machine (r ∷ o) d = run-machine o (stepDesk b d r)
@@ -60,19 +61,14 @@ module _ (b : Board) where
   run-append [] p d = refl
   run-append (r ∷ o) p d = run-append o p (stepDesk b d r)
 
-  pub run-number : (o : List Record) (d : Desk) → runDesk b o d .number ≡ d .number + length o
-  unfolding runDesk stepDesk
-  run-number [] d = omega arith
-  run-number (r ∷ o) d = run-number o (stepDesk b d r) ∙ omega arith
-
-  pub run-count : (o : List Record) (d : Desk) → runDesk b o d .count ≡ d .count + countTwos o (said (head b) o (d .machine))
+  pub run-count : (o : List Record) (d : Desk) → runDesk b o d .count ≡ d .count + countTwos o (said (onMachine b) o (d .machine))
   unfolding runDesk stepDesk countTwos said
   run-count [] d = omega arith
   run-count (r ∷ o) d = run-count o (stepDesk b d r) ∙ omega arith
 
   -- the replies so far are w, and zeros follow
   pub run-replies : (o : List Record) (d : Desk) (w : List ℕ) (k : ℕ) → d .replies ≡ w ++ replicate (4 * length o + k) 0 → length w ≡ 4 * d .number → length (d .replies) ≡ repliesLength →
-      d .number + length o ≤ 10000 → runDesk b o d .replies ≡ w ++ (replyLines o (said (head b) o (d .machine)) ++ replicate k 0)
+      d .number + length o ≤ replyPlaces → runDesk b o d .replies ≡ w ++ (replyLines o (said (onMachine b) o (d .machine)) ++ replicate k 0)
   unfolding runDesk stepDesk replyLines said
   run-replies [] d w k e l m h = let z : 4 * 0 + k ≡ k = omega arith in e ∙ ap (λ (n : ℕ). w ++ replicate n 0) z
   run-replies (r ∷ o) d w k e l m h =
@@ -84,5 +80,5 @@ module _ (b : Board) where
       let n : length (repliesWith (d .number) four (d .replies)) ≡ repliesLength =
       ap length f ∙ length-append (w ++ four) (replicate (4 * length o + k) 0) ∙ omega (arith, length-replicate {A = ℕ} (4 * length o + k) 0, ap length e, length-append w (replicate (4 * length (r ∷ o) + k) 0), length-replicate {A = ℕ} (4 * length (r ∷ o) + k) 0) in
       run-replies o (stepDesk b d r) (w ++ four) k f g n (omega arith)
-      ∙ append-assoc w four (replyLines o (said (head b) o (playOn b (d .machine) r)) ++ replicate k 0)
-      ∙ ap (λ (x : List ℕ). w ++ x) (sym (append-assoc four (replyLines o (said (head b) o (playOn b (d .machine) r))) (replicate k 0)))
+      ∙ append-assoc w four (replyLines o (said (onMachine b) o (playOn b (d .machine) r)) ++ replicate k 0)
+      ∙ ap (λ (x : List ℕ). w ++ x) (sym (append-assoc four (replyLines o (said (onMachine b) o (playOn b (d .machine) r))) (replicate k 0)))

@@ -1,5 +1,5 @@
--- The desk while records are played as they are written: the head, the replies so far, how many there are, and how many disagree.
-use mathlib.Core.List.{List, [], _∷_, _++_}
+-- The desk while records are played as they are written: the machine, the replies so far, how many there are, and how many disagree.
+use mathlib.Core.List.{List, [], _∷_}
 use Prim.Native.Nat.{ℕ, _+_}
 use Rattle.record.specs.declared.Board.{Board}
 use Rattle.record.specs.declared.Record.{Record}
@@ -7,7 +7,7 @@ use Rattle.record.specs.declared.Reply.{Reply}
 use Rattle.record.specs.declared.Match.{Match}
 use Rattle.record.specs.declared.Match.the-variants.{Nothing, Agrees, Disagrees}
 use Rattle.record.specs.Replies.{replyBytes}
-use Rattle.board.specs.declared.Controls.{Controls}
+use Rattle.controls.specs.declared.Controls.{Controls}
 use Rattle.image.specs.Images.{Images}
 use Rattle.machine.specs.Replies.{compared}
 use Rattle.machine.specs.Machine.{Machine, machineOf, playOn, saysOn}

@@ -1,6 +1,6 @@
 -- What the call answers and leaves (document 01, 'Replies and stopping', the table and what follows it).
 use mathlib.Core.Path.{_≡_}
-use mathlib.Core.Bool.{Bool, true, false}
+use mathlib.Core.Bool.{true, false}
 use mathlib.Core.Logic.{_⊎_}
 use mathlib.Core.List.{List, [], _∷_, _++_}
 use Prim.Native.Nat.{ℕ, _+_, _-_}
@@ -14,16 +14,15 @@ use Rattle.record.specs.declared.Board.{Board}
 use Rattle.record.specs.declared.Record.{Record}
 use Rattle.record.specs.declared.Reply.{Reply}
 use Rattle.record.specs.declared.Answer.{Answer}
-use Rattle.record.specs.declared.Answer.the-variants.{Settled, BadBuffers, TooLong, BadLine, BackInTime, Impossible, Crowded, OrdersDiffer, StatusLost}
+use Rattle.record.specs.declared.Answer.the-variants.{Settled, BadBuffers, TooLong, Crowded, OrdersDiffer, StatusLost}
 use Rattle.record.specs.Answers.{answerNumber}
-use Rattle.image.specs.declared.view.Chip.{Chip}
-use Rattle.image.specs.declared.view.Chip.the-variants.{Flash, Eeprom}
-use Rattle.orders.specs.declared.Verdict.{Verdict}
-use Rattle.orders.specs.declared.Verdict.the-variants as verdict
+use Rattle.record.specs.declared.Chip.{Chip}
+use Rattle.record.specs.declared.Chip.the-variants.{Flash, Eeprom}
 use Rattle.machine.specs.Replies.{compared}
-use Rattle.machine.specs.Machine.{Machine, machineAtStart, head}
+use Rattle.machine.specs.Machine.{Machine, machineAtStart, onMachine}
 use Rattle.text.specs.Texts.{textLimit, Readable, Refused}
-use Rattle.buffers.specs.Buffers.{Buffers, repliesLength, fit, resultBytes, resultAfter}
+use Rattle.record.specs.Lengths.{repliesLength}
+use Rattle.buffers.specs.Buffers.{Buffers, fit, resultBytes, resultAfter}
 use Rattle.call.specs.Play.{twos, replyLine}
 
 -- the answer, and what is in the buffers
@@ -62,8 +61,8 @@ shownAs b n t rs v =
     endedAs n
     (record {
       images = v .state .images;
-      replies = padded (replyLines rs (shownAt (head b) rs v));
-      result = resultBytes n t (countTwos rs (shownAt (head b) rs v));
+      replies = padded (replyLines rs (shownAt (onMachine b) rs v));
+      result = resultBytes n t (countTwos rs (shownAt (onMachine b) rs v));
     })
 
 abbrev pub reasonAnswer : Reason → Answer
@@ -74,9 +73,9 @@ reasonAnswer lost = StatusLost
 -- 0 leaves the end state and all replies; 6, 7, 8 state and replies before that stamp
 unfoldable pub shown : Board → List Record → meaning.Answer Machine Reply → Ended
 shown b rs (meaning.settled v) = shownAs b (answerNumber Settled) 0 rs v
-shown b rs (meaning.stopped n t v) = shownAs b (answerNumber (reasonAnswer n)) t (before (head b) t rs) v
+shown b rs (meaning.stopped n t v) = shownAs b (answerNumber (reasonAnswer n)) t (before (onMachine b) t rs) v
 
--- the head at the start, with the images as they are lent
+-- the machine at the start, with the images as they are lent
 abbrev pub startWith : Board → Buffers → Machine
 startWith b x = machineAtStart b (x .images)
 
@@ -86,22 +85,8 @@ pub record Replays (text : List ℕ) (x : Buffers) (e : Ended) : Type 0 where
   pub long : fit x ≡ true → ltb textLimit (length text) ≡ true → e ≡ refusedAs TooLong 0 x
   pub bad : fit x ≡ true → ltb textLimit (length text) ≡ false → (a : Answer) (n : ℕ) → Refused text a n → e ≡ refusedAs a n x
   pub played : fit x ≡ true → ltb textLimit (length text) ≡ false → (b : Board) (rs : List Record) → Readable text b rs →
-      (z : meaning.Answer Machine Reply) × Means (head b) rs (startWith b x) z × (e ≡ shown b rs z)
+      (z : meaning.Answer Machine Reply) × Means (onMachine b) rs (startWith b x) z × (e ≡ shown b rs z)
   pub read : fit x ≡ true → ltb textLimit (length text) ≡ false → ((b : Board) × (rs : List Record) × Readable text b rs) ⊎ ((a : Answer) × (n : ℕ) × Refused text a n)
-
--- a verdict as an answer; one that passes stops nothing
-abbrev pub stopOf : Verdict → Answer
-stopOf verdict.Crowded = Crowded
-stopOf verdict.Differ = OrdersDiffer
-stopOf verdict.Lost = StatusLost
-stopOf verdict.Passes = Settled
-
--- whether the replay goes on
-abbrev pub goesOn : Verdict → Bool
-goesOn verdict.Crowded = false
-goesOn verdict.Differ = false
-goesOn verdict.Lost = false
-goesOn verdict.Passes = true
 
 -- for a C caller 0 is the flash, any other number the EEPROM
 abbrev pub chipOf : ℕ → Chip

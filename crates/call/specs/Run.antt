@@ -1,5 +1,6 @@
--- What the loop over the stamps promises: for a readable text it ends as demand 3 says.
+-- What the loop over the stamps promises: for a readable text it ends as demand 3 says. And how a verdict on a stamp ends it.
 use mathlib.Core.Path.{_≡_}
+use mathlib.Core.Bool.{Bool, true, false}
 use mathlib.Core.List.{List}
 use Prim.Native.Nat.{ℕ}
 use lib.ListN.{length, replicate}
@@ -9,12 +10,16 @@ use Rattle.record.specs.declared.Board.{Board}
 use Rattle.record.specs.declared.Record.{Record}
 use Rattle.record.specs.declared.Reply.{Reply}
 use Rattle.record.specs.declared.Answer.{Answer}
+use Rattle.record.specs.declared.Answer.the-variants.{Settled, Crowded, OrdersDiffer, StatusLost}
 use Rattle.record.specs.Answers.{answerNumber}
 use Rattle.image.specs.Images.{Images}
+use Rattle.orders.specs.declared.Verdict.{Verdict}
+use Rattle.orders.specs.declared.Verdict.the-variants as verdict
 use Rattle.line.specs.Boards.{spelledBoard}
-use Rattle.machine.specs.Machine.{Machine, machineAtStart, head}
+use Rattle.machine.specs.Machine.{Machine, machineAtStart, onMachine}
 use Rattle.text.specs.Texts.{Readable}
-use Rattle.buffers.specs.Buffers.{repliesLength, resultBytes}
+use Rattle.record.specs.Lengths.{repliesLength}
+use Rattle.buffers.specs.Buffers.{resultBytes}
 use Rattle.call.specs.Replay.{Ended, endedAs, shown}
 
 -- an answer with its stamp and count, and the buffers as they are left
@@ -24,4 +29,18 @@ endedWith a t count x replies =
 
 pub record Runs (text : List ℕ) (first : ℕ) (b : Board) (x : Images) (replies : List ℕ) (e : Ended) : Type 0 where
   pub runs : (rs : List Record) → Readable text b rs → first ≡ length (spelledBoard b) → replies ≡ replicate repliesLength 0 →
-      (z : meaning.Answer Machine Reply) × Means (head b) rs (machineAtStart b x) z × (e ≡ shown b rs z)
+      (z : meaning.Answer Machine Reply) × Means (onMachine b) rs (machineAtStart b x) z × (e ≡ shown b rs z)
+
+-- a verdict as an answer; one that passes stops nothing
+abbrev pub stopOf : Verdict → Answer
+stopOf verdict.Crowded = Crowded
+stopOf verdict.Differ = OrdersDiffer
+stopOf verdict.Lost = StatusLost
+stopOf verdict.Passes = Settled
+
+-- whether the replay goes on
+abbrev pub goesOn : Verdict → Bool
+goesOn verdict.Crowded = false
+goesOn verdict.Differ = false
+goesOn verdict.Lost = false
+goesOn verdict.Passes = true

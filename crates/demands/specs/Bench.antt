@@ -1,4 +1,4 @@
--- The sentences of the bench sheet of document 01, each about the rules that demand 3 speaks of (`head`): records played one after the other on a board,
+-- The sentences of the bench sheet of document 01, each about the rules that demand 3 speaks of (`onMachine`): records played one after the other on a board,
 -- from the start, with the lent images x. Cases 11 and 12 say what the demand admits for a trace with stamps.
 use mathlib.Core.Path.{_≡_}
 use mathlib.Core.Bool.{false}
@@ -23,7 +23,7 @@ use Rattle.cell.specs.declared.Cell.{Cell}
 use Rattle.cell.specs.Rules.{programmedCell}
 use Rattle.image.specs.Image.{cellAt}
 use Rattle.image.specs.Images.{Images}
-use Rattle.machine.specs.Machine.{Machine, machineAtStart, head}
+use Rattle.machine.specs.Machine.{Machine, machineAtStart, onMachine}
 use Rattle.call.specs.Replay.{shown}
 
 -- ---- the words of the sheet
@@ -92,14 +92,14 @@ cell v m = record { value = v; mask = m }
 
 -- a place of the flash, and of the EEPROM, after the records
 abbrev pub flashAt : List Record → Images → ℕ → Cell
-flashAt rs x k = cellAt (after (head plain) rs (machineAtStart plain x) .images .flash) k
+flashAt rs x k = cellAt (after (onMachine plain) rs (machineAtStart plain x) .images .flash) k
 
 abbrev pub eepromAt : List Record → Images → ℕ → Cell
-eepromAt rs x k = cellAt (after (head plain) rs (machineAtStart plain x) .images .eeprom) k
+eepromAt rs x k = cellAt (after (onMachine plain) rs (machineAtStart plain x) .images .eeprom) k
 
 -- the replies to the records
 abbrev pub saidOn : Board → List Record → Images → List Reply
-saidOn b rs x = said (head b) rs (machineAtStart b x)
+saidOn b rs x = said (onMachine b) rs (machineAtStart b x)
 
 -- a kept byte as it is delivered
 abbrev pub byteOf : Cell → Reply
@@ -107,7 +107,7 @@ byteOf c = Byte (c .value) (c .mask)
 
 -- what the demand admits for the trace has the answer n
 abbrev pub Answered : List Record → Images → ℕ → Type 0
-Answered rs x n = (z : meaning.Answer Machine Reply) × Means (head plain) rs (machineAtStart plain x) z × (shown plain rs z .answer ≡ n)
+Answered rs x n = (z : meaning.Answer Machine Reply) × Means (onMachine plain) rs (machineAtStart plain x) z × (shown plain rs z .answer ≡ n)
 
 -- ---- the sentences
 -- 1. ff/00 programmed a5: a5/00

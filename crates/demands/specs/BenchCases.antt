@@ -8,7 +8,7 @@ use native.Mathlib.Omega.{arith}
 use lib.ListN.{length, getD, set, length-append}
 use lib.Seq.{getD-set-same}
 use Rattle.law.specs.Choice.{pick}
-use Rattle.meaning.specs.Lists.{filter, keep, gather, All}
+use Rattle.law.specs.Lists.{filter, keep, gather, All}
 use Rattle.meaning.specs.Meaning.{F, Outcome, after, replies, Alike}
 use Rattle.meaning.specs.Listing.{said}
 use Rattle.meaning.specs.Channels.{same-outcome}
@@ -23,16 +23,16 @@ use Rattle.record.specs.declared.Reply.the-variants.{Silent, Starts}
 use Rattle.record.specs.LineRules.{linesAtStart}
 use Rattle.cell.specs.declared.Cell.{Cell}
 use Rattle.cell.specs.Rules.{programmedCell, cutCell, storedCell}
-use Rattle.page.specs.Rolling.{rolledIn, place, roll}
+use Rattle.page.specs.Rolling.{rolledIn, place, sentPlace, roll}
 use Rattle.page.specs.Laws.{rolled-256, place-first, place-next, roll-last, length-roll}
-use Rattle.image.specs.declared.view.Chip.{Chip}
+use Rattle.record.specs.declared.Chip.{Chip}
 use Rattle.image.specs.Image.{Image, spans, cellAt}
 use Rattle.image.specs.Images.{Images, keptBytes}
-use Rattle.image.specs.Cycles.{programPage, cutProgramPage, storePage, isSent}
+use Rattle.image.specs.Cycles.{programPage, cutProgramPage, storePage}
 use Rattle.image.proofs.AtPlace.{programPage-at, cutProgramPage-at, storePage-at}
 use Rattle.image.proofs.Keeping.{spans-programPage, spans-cutProgramPage}
 use Rattle.image.proofs.Reading.{page-behind}
-use Rattle.board.specs.Play.{movedOf}
+use Rattle.controls.specs.Play.{movedOf}
 use Rattle.flash.specs.Cycle.{blank}
 use Rattle.flash.specs.declared.Op.the-variants as op
 use Rattle.flash.specs.declared.LockFact.the-variants.{Absent}
@@ -42,7 +42,7 @@ use Rattle.flash.specs.declared.FlashStatus.the-variants.{Known}
 use Rattle.eeprom.specs.Chip as eeprom-chip
 use Rattle.machine.specs.Effects.{flashAfter, eepromAfter}
 use Rattle.machine.specs.Replies.{delivered}
-use Rattle.machine.specs.Machine.{Machine, machineOf, machineAtStart, head, playOn, saysOn}
+use Rattle.machine.specs.Machine.{Machine, machineOf, machineAtStart, onMachine, playOn, saysOn}
 use Rattle.call.specs.Replay.{shown, shownAs}
 use Rattle.demands.specs.OneStamp.{one-channel, few, stamp-passes}
 use Rattle.demands.specs.Bench.{plain, onF, onL, xs, opened, wren, three, Case1, Case2, Case3, Case4, Case5, Case6, Case7, Case8, Case9, Case10, Case11, Case12}
@@ -79,25 +79,25 @@ module _ (x : Images) where
       λ i. sending (next i) (set page (small i) d) x 5
 
   -- the data roll in the page
-  send-all : (ds : List ℕ) (p : ℕ) (page : List ℕ) → p < 256 → after (head plain) (xs 0 ds) (sending p page x 5) ≡ sending (place 256 p (length ds)) (roll 256 p ds page) x 5
+  send-all : (ds : List ℕ) (p : ℕ) (page : List ℕ) → p < 256 → after (onMachine plain) (xs 0 ds) (sending p page x 5) ≡ sending (place 256 p (length ds)) (roll 256 p ds page) x 5
   unfolding after
   send-all [] p page h = ap (λ (k : ℕ). sending k page x 5) (sym (place-first 256 p h))
   send-all (d ∷ ds) p page h =
-      ap (after (head plain) (xs 0 ds)) (send-one p page d h)
+      ap (after (onMachine plain) (xs 0 ds)) (send-one p page d h)
       ∙ send-all ds ((p + 1) % 256) (set page p d) (mod-lt (p + 1) (omega arith))
       ∙ ap (λ (k : ℕ). sending k (roll 256 p (d ∷ ds) page) x 5) (place-next 256 p (length ds))
 
   -- 256 bytes from place 1 on end at place 1 again; then `des` and `end`
   send-done : (ds page : List ℕ) → length ds ≡ 256 →
-      after (head plain) ((xs 0 ds ++ (onF 0 flash.Deselect ∷ [])) ++ (onF 0 flash.End ∷ [])) (sending 1 page x 5) .images .flash ≡ programPage 0 (roll 256 1 ds page) (x .flash)
+      after (onMachine plain) ((xs 0 ds ++ (onF 0 flash.Deselect ∷ [])) ++ (onF 0 flash.End ∷ [])) (sending 1 page x 5) .images .flash ≡ programPage 0 (roll 256 1 ds page) (x .flash)
   unfolding after playOn movedOf flashAfter eepromAfter
   send-done ds page h =
-      let sent-all : after (head plain) (xs 0 ds) (sending 1 page x 5) ≡ sending 1 (roll 256 1 ds page) x 5 =
+      let sent-all : after (onMachine plain) (xs 0 ds) (sending 1 page x 5) ≡ sending 1 (roll 256 1 ds page) x 5 =
       send-all ds 1 page (omega arith) ∙ ap (λ (k : ℕ). sending (place 256 1 k) (roll 256 1 ds page) x 5) h in
       ap (λ (m : Machine). m .images .flash)
-      (after-append (head plain) (xs 0 ds ++ (onF 0 flash.Deselect ∷ [])) (onF 0 flash.End ∷ []) (sending 1 page x 5)
-      ∙ ap (after (head plain) (onF 0 flash.End ∷ []))
-      (after-append (head plain) (xs 0 ds) (onF 0 flash.Deselect ∷ []) (sending 1 page x 5) ∙ ap (after (head plain) (onF 0 flash.Deselect ∷ [])) sent-all))
+      (after-append (onMachine plain) (xs 0 ds ++ (onF 0 flash.Deselect ∷ [])) (onF 0 flash.End ∷ []) (sending 1 page x 5)
+      ∙ ap (after (onMachine plain) (onF 0 flash.End ∷ []))
+      (after-append (onMachine plain) (xs 0 ds) (onF 0 flash.Deselect ∷ []) (sending 1 page x 5) ∙ ap (after (onMachine plain) (onF 0 flash.Deselect ∷ [])) sent-all))
 
 module _ (x : Images) (fit : spans (keptBytes Chip.Flash) (x .flash) ≡ true) where
   pub case1 : Case1 x
@@ -156,9 +156,9 @@ module _ (x : Images) (fit : spans (keptBytes Chip.Eeprom) (x .eeprom) ≡ true)
   unfolding after playOn movedOf flashAfter eepromAfter storePage
   case9 =
       let page : List ℕ = set (set eeprom-chip.blank 63 0x11) 0 0x22 in (
-        storePage-at (x .eeprom) (keptBytes Chip.Eeprom) fit 0 63 2 page (omega arith) (omega arith) 0x00 (omega arith) refl,
-        storePage-at (x .eeprom) (keptBytes Chip.Eeprom) fit 0 63 2 page (omega arith) (omega arith) 0x3f (omega arith) refl,
-        page-behind 64 0 (λ q c. pick (isSent 63 2 q) (storedCell (getD page q 0)) c) (x .eeprom) 0x40 (omega arith) (omega arith),
+        storePage-at (x .eeprom) (keptBytes Chip.Eeprom) fit 0 63 2 page (omega arith) 0x00 (omega arith) refl,
+        storePage-at (x .eeprom) (keptBytes Chip.Eeprom) fit 0 63 2 page (omega arith) 0x3f (omega arith) refl,
+        page-behind 64 0 (λ q c. pick (sentPlace 64 63 2 q) (storedCell (getD page q 0)) c) (x .eeprom) 0x40 (omega arith) (omega arith),
       )
 
   pub case10 : Case10 x
@@ -172,22 +172,22 @@ desOff stamp = onF stamp flash.Deselect ∷ onL stamp SupplyOff ∷ []
 module _ (x : Images) where
   -- WREN's frame is open
   abbrev enabling : Machine
-  enabling = after (head plain) (opened 10 (0x06 ∷ [])) (machineAtStart plain x)
+  enabling = after (onMachine plain) (opened 10 (0x06 ∷ [])) (machineAtStart plain x)
 
-  des-off-alike : Alike (head plain) (desOff 20) enabling
+  des-off-alike : Alike (onMachine plain) (desOff 20) enabling
   unfolding All gather orders places behind after replies keep playOn saysOn movedOf delivered flashAfter eepromAfter
   des-off-alike =
-      listed-alike (head plain) (desOff 20) enabling (refl, (same-outcome _ _ refl (refl, (refl, (refl, tt))), tt))
+      listed-alike (onMachine plain) (desOff 20) enabling (refl, (same-outcome _ _ refl (refl, (refl, (refl, tt))), tt))
 
   pub case11 : Case11 x
   unfolding filter keep All after playOn movedOf flashAfter eepromAfter shown shownAs goesOn
   case11 =
       let frame : List Record = opened 10 (0x06 ∷ []) in
-      let last = stamp-passes (head plain) (desOff 20) [] 20 (refl, (refl, tt)) tt refl enabling refl
-      des-off-alike refl _ (means-end (head plain) _ refl) in (
+      let last = stamp-passes (onMachine plain) (desOff 20) [] 20 (refl, (refl, tt)) tt refl enabling refl
+      des-off-alike refl _ (means-end (onMachine plain) _ refl) in (
         _,
-        stamp-passes (head plain) frame (desOff 20) 10 (refl, (refl, tt)) (omega arith, (omega arith, tt)) refl (machineAtStart plain x) refl
-            (one-channel (head plain) F frame (refl, (refl, tt)) (machineAtStart plain x)) refl _ last,
+        stamp-passes (onMachine plain) frame (desOff 20) 10 (refl, (refl, tt)) (omega arith, (omega arith, tt)) refl (machineAtStart plain x) refl
+            (one-channel (onMachine plain) F frame (refl, (refl, tt)) (machineAtStart plain x)) refl _ last,
         refl,
       )
 
@@ -196,16 +196,16 @@ module _ (x : Images) where
   written = opened 20 (0x02 ∷ (three 0x00000 ++ (0xa5 ∷ [])))
 
   abbrev enabled : Machine
-  enabled = after (head plain) (wren 10) (machineAtStart plain x)
+  enabled = after (onMachine plain) (wren 10) (machineAtStart plain x)
 
   abbrev programming : Machine
-  programming = after (head plain) written enabled
+  programming = after (onMachine plain) written enabled
 
   -- `des` first starts a cycle, `off` first does not
-  des-off-differ : Alike (head plain) (desOff 30) programming → ⊥
+  des-off-differ : Alike (onMachine plain) (desOff 30) programming → ⊥
   unfolding All gather orders places behind keep after replies playOn saysOn movedOf delivered flashAfter eepromAfter
   des-off-differ a =
-      let k = alike-listed (head plain) (desOff 30) 30 (refl, (refl, tt)) programming a .1 .0 in
+      let k = alike-listed (onMachine plain) (desOff 30) 30 (refl, (refl, tt)) programming a .1 .0 in
       let r : Silent ∷ [] ≡ Starts ∷ [] = ap (λ (v : Outcome Machine Reply). v .replies F) k in
       let z : _≡_ {A = ℕ} 0 1 = cc in
       omega arith
@@ -214,14 +214,14 @@ module _ (x : Images) where
   unfolding filter keep All after playOn movedOf flashAfter eepromAfter shown shownAs goesOn
   case12 =
       let six : All (λ (r : Record). r .stamp ≡ 20) written = (refl, (refl, (refl, (refl, (refl, (refl, tt)))))) in
-      let last = means-differ (head plain) (desOff 30) [] 30 (refl, (refl, tt)) tt programming refl
-      (few (head plain) (desOff 30) [] 30 (refl, (refl, tt)) tt refl) des-off-differ in
-      let next = stamp-passes (head plain) written (desOff 30) 20 six (omega arith, (omega arith, tt)) refl enabled refl
-      (one-channel (head plain) F written (refl, (refl, (refl, (refl, (refl, (refl, tt)))))) enabled) refl _ last in (
+      let last = means-differ (onMachine plain) (desOff 30) [] 30 (refl, (refl, tt)) tt programming refl
+      (few (onMachine plain) (desOff 30) [] 30 (refl, (refl, tt)) tt refl) des-off-differ in
+      let next = stamp-passes (onMachine plain) written (desOff 30) 20 six (omega arith, (omega arith, tt)) refl enabled refl
+      (one-channel (onMachine plain) F written (refl, (refl, (refl, (refl, (refl, (refl, tt)))))) enabled) refl _ last in (
         _,
-        stamp-passes (head plain) (wren 10) (written ++ desOff 30) 10 (refl, (refl, (refl, tt)))
+        stamp-passes (onMachine plain) (wren 10) (written ++ desOff 30) 10 (refl, (refl, (refl, tt)))
             (omega arith, (omega arith, (omega arith, (omega arith, (omega arith, (omega arith, (omega arith, (omega arith, tt))))))))
             refl (machineAtStart plain x) refl
-            (one-channel (head plain) F (wren 10) (refl, (refl, (refl, tt))) (machineAtStart plain x)) refl _ next,
+            (one-channel (onMachine plain) F (wren 10) (refl, (refl, (refl, tt))) (machineAtStart plain x)) refl _ next,
         refl,
       )

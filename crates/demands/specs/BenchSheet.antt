@@ -1,6 +1,6 @@
 -- The bench sheet: one list (`sheet`, its sentences stand in Bench), one theorem over it.
 use mathlib.Core.List.{List, [], _∷_}
-use Rattle.image.specs.declared.view.Chip.{Chip}
+use Rattle.record.specs.declared.Chip.{Chip}
 use Rattle.image.specs.Images.{Images, Kept}
 use Rattle.demands.specs.Bench.{sheet}
 use Rattle.demands.specs.BenchCases.{case1, case2, case3, case4, case5, case6, case7, case8, case9, case10, case11, case12}

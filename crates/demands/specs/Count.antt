@@ -9,7 +9,7 @@ use lib.Dec.{eqb, ltb}
 use lib.ListN.{length, replicate}
 use borrow.Author.Tests.{ltb-false}
 use Rattle.law.specs.Choice.{pick}
-use Rattle.meaning.specs.Lists.{keep, filter}
+use Rattle.law.specs.Lists.{keep, filter}
 use Rattle.meaning.specs.Listing.{said}
 use Rattle.meaning.specs.Meaning as meaning
 use Rattle.record.specs.declared.Board.{Board}
@@ -19,10 +19,11 @@ use Rattle.record.specs.declared.Match.{Match}
 use Rattle.record.specs.declared.Match.the-variants.{Nothing, Agrees, Disagrees}
 use Rattle.record.specs.Replies.{matchNumber}
 use Rattle.machine.specs.Replies.{compared}
-use Rattle.machine.specs.Machine.{Machine, head}
+use Rattle.machine.specs.Machine.{Machine, onMachine}
 use Rattle.text.specs.Texts.{textLimit, Readable}
 use Rattle.text.proofs.Theorems.{few-records}
-use Rattle.buffers.specs.Buffers.{Buffers, repliesLength, fit, resultBytes}
+use Rattle.record.specs.Lengths.{repliesLength}
+use Rattle.buffers.specs.Buffers.{Buffers, fit, resultBytes}
 use Rattle.call.specs.Play.{twos}
 use Rattle.call.specs.Replay.{Ended, replyLines, countTwos, padded, Replays, startWith}
 use Rattle.call.proofs.Playing.{two-most}
@@ -84,11 +85,11 @@ records-most b (meaning.stopped n t v) rs = filter-most _ rs
 -- ---- the call
 left-count : (b : Board) (n t : ℕ) (ps : List Record) (m : Machine) → leftBy b n t ps m .buffers .result ≡ resultBytes (leftBy b n t ps m .answer) t (matchesTwo (leftBy b n t ps m .buffers .replies))
 unfolding leftBy
-left-count b n t ps m = ap (resultBytes n t) (padded-two ps (said (head b) ps m))
+left-count b n t ps m = ap (resultBytes n t) (padded-two ps (said (onMachine b) ps m))
 
 left-small : (b : Board) (n t : ℕ) (ps : List Record) (m : Machine) → matchesTwo (leftBy b n t ps m .buffers .replies) ≤ length ps
 unfolding leftBy
-left-small b n t ps m = rw (← padded-two ps (said (head b) ps m)) (count-most ps (said (head b) ps m))
+left-small b n t ps m = rw (← padded-two ps (said (onMachine b) ps m)) (count-most ps (said (onMachine b) ps m))
 
 module _ {text : List ℕ} {x : Buffers} {e : Ended} {b : Board} {rs : List Record} (p : Replays text x e) (f : fit x ≡ true) (l : ltb textLimit (length text) ≡ false) (q : Readable text b rs) where
   -- the result holds the answer, a stamp, and the number of matches 2 in the replies

@@ -13,7 +13,7 @@ use Rattle.meaning.specs.OneAnswer.{means-one}
 use Rattle.record.specs.declared.Board.{Board}
 use Rattle.record.specs.declared.Record.{Record}
 use Rattle.record.specs.declared.Reply.{Reply}
-use Rattle.machine.specs.Machine.{Machine, head}
+use Rattle.machine.specs.Machine.{Machine, onMachine}
 use Rattle.text.specs.Texts.{textLimit}
 use Rattle.buffers.specs.Buffers.{Buffers, fit}
 use Rattle.call.specs.Replay.{Ended, shown, Replays}
@@ -21,8 +21,8 @@ use Rattle.demands.specs.Readable.{readable-back}
 
 -- what is shown for two answers that the demand admits
 same-shown : {e e′ : Ended} (b : Board) (rs : List Record) (s : Machine) (z w : meaning.Answer Machine Reply) →
-    NeverBack (head b) rs → Means (head b) rs s z → Means (head b) rs s w → e ≡ shown b rs z → e′ ≡ shown b rs w → e ≡ e′
-same-shown b rs s z w n m k p q = p ∙ ap (shown b rs) (means-one (head b) rs s n z w m k) ∙ sym q
+    NeverBack (onMachine b) rs → Means (onMachine b) rs s z → Means (onMachine b) rs s w → e ≡ shown b rs z → e′ ≡ shown b rs w → e ≡ e′
+same-shown b rs s z w n m k p q = p ∙ ap (shown b rs) (means-one (onMachine b) rs s n z w m k) ∙ sym q
 
 module _ {text : List ℕ} {x : Buffers} {e e′ : Ended} (p : Replays text x e) (q : Replays text x e′) where
   -- on buffers that fit and a text within the limit: a readable text by the demand, another by its first bad line

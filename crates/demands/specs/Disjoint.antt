@@ -9,7 +9,7 @@ use lib.Bits.{bitAnd, and-zero-r}
 use lib.Dec.{eqb, ltb}
 use lib.ListN.{length, getD, replicate}
 use Rattle.law.specs.Choice.{of-both}
-use Rattle.meaning.specs.Lists.{All}
+use Rattle.law.specs.Lists.{All}
 use Rattle.meaning.specs.Meaning.{after}
 use Rattle.meaning.specs.Listing.{said}
 use Rattle.record.specs.declared.Board.{Board}
@@ -21,13 +21,13 @@ use Rattle.record.specs.declared.Skeleton.the-variants as skeleton
 use Rattle.record.specs.declared.Reply.{Reply}
 use Rattle.record.specs.Replies.{replyValue, replyMask}
 use Rattle.cell.specs.Rules.{Disjoint}
-use Rattle.image.specs.declared.view.Chip.{Chip}
+use Rattle.record.specs.declared.Chip.{Chip}
 use Rattle.image.specs.Image.{Image, Clean}
 use Rattle.image.specs.Images.{Images, AllClean}
 use Rattle.image.specs.Cycles.{programPage, cutProgramPage, eraseAll, cutEraseAll}
 use Rattle.image.proofs.Keeping.{clean-programPage, clean-cutProgramPage, clean-eraseAll, clean-cutEraseAll, clean-storePage, clean-cutStorePage}
-use Rattle.board.specs.declared.Controls.{Controls}
-use Rattle.board.specs.Play.{movedOf}
+use Rattle.controls.specs.declared.Controls.{Controls}
+use Rattle.controls.specs.Play.{movedOf}
 use Rattle.flash.specs.declared.Flash.{Flash}
 use Rattle.flash.specs.declared.FlashStatus.{FlashStatus}
 use Rattle.flash.specs.declared.FlashCycle.{FlashCycle}
@@ -35,12 +35,13 @@ use Rattle.flash.specs.declared.FlashCycle.the-variants as flash-cycle
 use Rattle.eeprom.specs.declared.Eeprom.{Eeprom}
 use Rattle.eeprom.specs.declared.EepromCycle.{EepromCycle}
 use Rattle.eeprom.specs.declared.EepromCycle.the-variants as eeprom-cycle
-use Rattle.machine.specs.declared.Stroke.{Stroke}
-use Rattle.machine.specs.declared.Stroke.the-variants.{Nothing, Whole, Cut}
-use Rattle.machine.specs.Effects.{sectorOfPage, inSector, reached, flashWhole, flashCut, flashAfter, eepromWhole, eepromCut, eepromAfter, flashStroke, eepromStroke, imagesAfter}
+use Rattle.machine.specs.declared.effects.Stroke.{Stroke}
+use Rattle.machine.specs.declared.effects.Stroke.the-variants.{Nothing, Whole, Cut}
+use Rattle.machine.specs.Effects.{sectorOfPage, inSector, reached, flashWhole, flashCut, flashAfter, eepromWhole, eepromCut, eepromAfter, strokeFor, imagesAfter}
 use Rattle.machine.specs.Replies.{delivered}
-use Rattle.machine.specs.Machine.{Machine, imageFor, head, playOn, saysOn}
-use Rattle.buffers.specs.Buffers.{Buffers, repliesLength, fit}
+use Rattle.machine.specs.Machine.{Machine, imageFor, onMachine, playOn, saysOn}
+use Rattle.record.specs.Lengths.{repliesLength}
+use Rattle.buffers.specs.Buffers.{Buffers, fit}
 use Rattle.buffers.proofs.Fit.{Fit, fit-says}
 use Rattle.text.specs.Texts.{textLimit, Readable}
 use Rattle.call.specs.Replay.{Ended, refusedAs, replyLines, padded, Replays, startWith}
@@ -85,14 +86,14 @@ eeprom-after Cut x i h = eeprom-cut (x .cycle) i h
 
 -- ---- a record keeps it, and so do all records
 images-clean : (b : Board) (c : Controls) (v : Event) (k : Skeleton) (x : Images) → AllClean x → AllClean (imagesAfter b c v k x)
-images-clean b c v k x h Chip.Flash = flash-after (flashStroke (c .lines) v k) (b .sector) (c .flash) (x .flash) (h Chip.Flash)
-images-clean b c v k x h Chip.Eeprom = eeprom-after (eepromStroke (c .lines) v k) (c .eeprom) (x .eeprom) (h Chip.Eeprom)
+images-clean b c v k x h Chip.Flash = flash-after (strokeFor Chip.Flash (c .lines) v k) (b .sector) (c .flash) (x .flash) (h Chip.Flash)
+images-clean b c v k x h Chip.Eeprom = eeprom-after (strokeFor Chip.Eeprom (c .lines) v k) (c .eeprom) (x .eeprom) (h Chip.Eeprom)
 
 pub play-clean : (b : Board) (m : Machine) (r : Record) → AllClean (m .images) → AllClean (playOn b m r .images)
 unfolding playOn
 play-clean b m r h = images-clean b (m .controls) (r .event) (movedOf b (m .controls) r .reply) (m .images) h
 
-pub after-clean : (b : Board) (o : List Record) (m : Machine) → AllClean (m .images) → AllClean (after (head b) o m .images)
+pub after-clean : (b : Board) (o : List Record) (m : Machine) → AllClean (m .images) → AllClean (after (onMachine b) o m .images)
 unfolding after
 after-clean b [] m h = h
 after-clean b (r ∷ o) m h = after-clean b o (playOn b m r) (play-clean b m r h)
@@ -117,7 +118,7 @@ image-clean (event.Flash e) m h = h Chip.Flash
 image-clean (event.Eeprom e) m h = h Chip.Eeprom
 image-clean (event.Line e) m h = h Chip.Flash
 
-said-sure : (b : Board) (o : List Record) (m : Machine) → AllClean (m .images) → All Sure (said (head b) o m)
+said-sure : (b : Board) (o : List Record) (m : Machine) → AllClean (m .images) → All Sure (said (onMachine b) o m)
 unfolding said All saysOn
 said-sure b [] m h = tt
 said-sure b (r ∷ o) m h =
@@ -175,4 +176,4 @@ replies-disjoint {text} {x} {e} {b} {rs} p f l q k =
     let m = startWith b x in
     let z = call-left p f l q in
     let ps = recordsOf b (z .0) rs in
-    rw (z .2) (padded-sure ps (said (head b) ps m) (said-sure b ps m (h .clean)) k)
+    rw (z .2) (padded-sure ps (said (onMachine b) ps m) (said-sure b ps m (h .clean)) k)

@@ -13,7 +13,8 @@ use Rattle.record.specs.declared.Answer.the-variants.{BadBuffers, TooLong, BadL
 use Rattle.record.specs.Answers.{answerNumber}
 use Rattle.field.specs.Decimal.{largest}
 use Rattle.text.specs.Texts.{textLimit, Refused}
-use Rattle.buffers.specs.Buffers.{Buffers, resultLength, fit, resultBytes, resultAfter}
+use Rattle.record.specs.Lengths.{resultLength}
+use Rattle.buffers.specs.Buffers.{Buffers, fit, resultBytes, resultAfter}
 use Rattle.buffers.proofs.Fit.{fit-says}
 use Rattle.buffers.proofs.Result.{result-written}
 use Rattle.call.specs.Replay.{Ended, endedAs, refusedAs, Replays}

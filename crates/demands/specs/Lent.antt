@@ -6,12 +6,13 @@ use native.Mathlib.Omega.{arith}
 use lib.Bits.{bitAnd, and-zero-l, and-zero-r}
 use lib.ListN.{getD, replicate, length-replicate, getD-replicate}
 use Rattle.cell.specs.Rules.{erasedCell, Disjoint}
-use Rattle.image.specs.declared.view.Chip.{Chip}
-use Rattle.image.specs.declared.view.Chip.the-variants.{Flash, Eeprom}
+use Rattle.record.specs.declared.Chip.{Chip}
+use Rattle.record.specs.declared.Chip.the-variants.{Flash, Eeprom}
 use Rattle.image.specs.Image.{Image, imageOf, spans, cellAt, Clean}
 use Rattle.image.specs.Images.{Images, keptBytes, Kept, AllClean}
 use Rattle.image.proofs.Fitting.{lengths-span}
-use Rattle.buffers.specs.Buffers.{Buffers, repliesLength, resultLength, fit}
+use Rattle.record.specs.Lengths.{repliesLength, resultLength}
+use Rattle.buffers.specs.Buffers.{Buffers, fit}
 use Rattle.buffers.proofs.Fit.{fit-only}
 
 -- an image of n bytes with v/m at every place

@@ -8,7 +8,7 @@ use lib.Dec.{leb}
 use lib.ListN.{length}
 use borrow.Author.Tests.{leb-true}
 use Rattle.law.specs.Choice.{pick, both}
-use Rattle.meaning.specs.Lists.{All, all-map, filter-all}
+use Rattle.law.specs.Lists.{All, all-map, filter-all}
 use Rattle.meaning.specs.Meaning.{Channel, most, same, Rules, of, Allowed, after, outcome, Alike, Crowded, Answer, Means}
 use Rattle.meaning.specs.Channels.{channels, every-channel, same-self}
 use Rattle.meaning.specs.Onward.{goesOn}

@@ -6,7 +6,7 @@ use Prim.Native.Nat.{ℕ, _+_}
 use lib.Dec.{ltb}
 use lib.ListN.{length}
 use Rattle.law.specs.Choice.{split}
-use Rattle.meaning.specs.Lists.{keep, filter}
+use Rattle.law.specs.Lists.{keep, filter}
 use Rattle.meaning.specs.Meaning.{Channel, same, Outcome, of, Allowed, NeverBack, Agreed, Means, after, replies, outcome}
 use Rattle.meaning.specs.Meaning as meaning
 use Rattle.meaning.specs.Sums.{sum, ofChannel, total, total-apart, total-same}
@@ -17,7 +17,7 @@ use Rattle.record.specs.declared.Board.{Board}
 use Rattle.record.specs.declared.Record.{Record}
 use Rattle.record.specs.declared.Reply.{Reply}
 use Rattle.machine.specs.Replies.{compared}
-use Rattle.machine.specs.Machine.{Machine, channelOf, head, playOn, saysOn}
+use Rattle.machine.specs.Machine.{Machine, channelOf, onMachine, playOn, saysOn}
 use Rattle.text.specs.Texts.{textLimit, spelledTrace, Readable}
 use Rattle.buffers.specs.Buffers.{Buffers, fit, resultBytes}
 use Rattle.call.specs.Play.{twos}
@@ -40,7 +40,7 @@ abbrev pub channelIn : Replied → Channel
 channelIn a = channelOf (a .0 .event)
 
 abbrev pub repliedOf : Channel → Board → List Record → Machine → List Replied
-repliedOf c b ps m = ofChannel channelIn c (paired ps (said (head b) ps m))
+repliedOf c b ps m = ofChannel channelIn c (paired ps (said (onMachine b) ps m))
 
 -- ---- a channel's records with their replies are told by the channel's records and the channel's replies
 keep-paired : (t : Bool) (r : Record) (y : Reply) (rs : List Record) (ys : List Reply) → keep t (r, y) (paired rs ys) ≡ paired (keep t r rs) (keep t y ys)
@@ -48,12 +48,12 @@ unfolding keep paired
 keep-paired true r y rs ys = refl
 keep-paired false r y rs ys = refl
 
-replied-is : (c : Channel) (b : Board) (ps : List Record) (m : Machine) → repliedOf c b ps m ≡ paired (of (head b) c ps) (replies (head b) c ps m)
+replied-is : (c : Channel) (b : Board) (ps : List Record) (m : Machine) → repliedOf c b ps m ≡ paired (of (onMachine b) c ps) (replies (onMachine b) c ps m)
 unfolding filter said paired replies
 replied-is c b [] m = refl
 replied-is c b (r ∷ ps) m =
     ap (keep (same c (channelOf (r .event))) (r, saysOn b m r)) (replied-is c b ps (playOn b m r))
-    ∙ keep-paired (same c (channelOf (r .event))) r (saysOn b m r) (of (head b) c ps) (replies (head b) c ps (playOn b m r))
+    ∙ keep-paired (same c (channelOf (r .event))) r (saysOn b m r) (of (onMachine b) c ps) (replies (onMachine b) c ps (playOn b m r))
 
 -- ---- the count is a sum over the records with their replies
 weight : Replied → ℕ
@@ -66,11 +66,11 @@ count-total (r ∷ rs) [] = refl
 count-total (r ∷ rs) (y ∷ ys) = ap (λ (n : ℕ). twos (compared (r .event) y) + n) (count-total rs ys)
 
 -- of records played as they are written it is the sum over the channels, each with its own replies
-pub count-channels : (b : Board) (ps : List Record) (m : Machine) → countTwos ps (said (head b) ps m) ≡ sum (λ c. countTwos (of (head b) c ps) (replies (head b) c ps m))
-count-channels b ps m = count-total ps (said (head b) ps m) ∙ total-apart channelIn weight (paired ps (said (head b) ps m)) ∙ (λ i. sum (λ c. one c i))
+pub count-channels : (b : Board) (ps : List Record) (m : Machine) → countTwos ps (said (onMachine b) ps m) ≡ sum (λ c. countTwos (of (onMachine b) c ps) (replies (onMachine b) c ps m))
+count-channels b ps m = count-total ps (said (onMachine b) ps m) ∙ total-apart channelIn weight (paired ps (said (onMachine b) ps m)) ∙ (λ i. sum (λ c. one c i))
   where
-    one : (c : Channel) → total channelIn weight (repliedOf c b ps m) ≡ countTwos (of (head b) c ps) (replies (head b) c ps m)
-    one c = ap (total channelIn weight) (replied-is c b ps m) ∙ sym (count-total (of (head b) c ps) (replies (head b) c ps m))
+    one : (c : Channel) → total channelIn weight (repliedOf c b ps m) ≡ countTwos (of (onMachine b) c ps) (replies (onMachine b) c ps m)
+    one c = ap (total channelIn weight) (replied-is c b ps m) ∙ sym (count-total (of (onMachine b) c ps) (replies (onMachine b) c ps m))
 
 -- two calls say the same: the answer, the result (the answer again, the line or stamp, the count), all bytes and all marks
 pub record SameReplay (e e′ : Ended) : Type 0 where
@@ -79,21 +79,21 @@ pub record SameReplay (e e′ : Ended) : Type 0 where
   pub images : e′ .buffers .images ≡ e .buffers .images
 
 -- ---- ps and qs are records in two allowed orders that end alike
-module _ (b : Board) (ps qs : List Record) (m : Machine) (keeps : (c : Channel) → of (head b) c qs ≡ of (head b) c ps) (alike : outcome (head b) qs m ≡ outcome (head b) ps m) where
+module _ (b : Board) (ps qs : List Record) (m : Machine) (keeps : (c : Channel) → of (onMachine b) c qs ≡ of (onMachine b) c ps) (alike : outcome (onMachine b) qs m ≡ outcome (onMachine b) ps m) where
   replied-same : (c : Channel) → repliedOf c b qs m ≡ repliedOf c b ps m
   replied-same c =
       replied-is c b qs m
       ∙ ap₂ paired (keeps c) (ap (λ (v : Outcome Machine Reply). v .replies c) alike)
       ∙ sym (replied-is c b ps m)
 
-  state-same : after (head b) qs m ≡ after (head b) ps m
+  state-same : after (onMachine b) qs m ≡ after (onMachine b) ps m
   state-same = ap (λ (v : Outcome Machine Reply). v .state) alike
 
-  count-same : countTwos qs (said (head b) qs m) ≡ countTwos ps (said (head b) ps m)
+  count-same : countTwos qs (said (onMachine b) qs m) ≡ countTwos ps (said (onMachine b) ps m)
   count-same =
-      count-total qs (said (head b) qs m)
-      ∙ total-same channelIn weight (paired qs (said (head b) qs m)) (paired ps (said (head b) ps m)) replied-same
-      ∙ sym (count-total ps (said (head b) ps m))
+      count-total qs (said (onMachine b) qs m)
+      ∙ total-same channelIn weight (paired qs (said (onMachine b) qs m)) (paired ps (said (onMachine b) ps m)) replied-same
+      ∙ sym (count-total ps (said (onMachine b) ps m))
 
   -- all but the replies' places
   left-same : (n t : ℕ) → SameReplay (leftBy b n t ps m) (leftBy b n t qs m)
@@ -105,29 +105,29 @@ module _ (b : Board) (ps qs : List Record) (m : Machine) (keeps : (c : Channel) 
   }
 
 -- ---- what an answer shows of rs and of ls
-module _ (b : Board) (rs ls : List Record) (a : Allowed (head b) rs ls) (back : NeverBack (head b) rs) (m : Machine) where
-  shown-allowed : (z : meaning.Answer Machine Reply) → Allowed (head b) (recordsOf b z rs) (recordsOf b z ls)
+module _ (b : Board) (rs ls : List Record) (a : Allowed (onMachine b) rs ls) (back : NeverBack (onMachine b) rs) (m : Machine) where
+  shown-allowed : (z : meaning.Answer Machine Reply) → Allowed (onMachine b) (recordsOf b z rs) (recordsOf b z ls)
   shown-allowed (meaning.settled v) = a
-  shown-allowed (meaning.stopped n t v) = allowed-part (head b) _ rs ls a
+  shown-allowed (meaning.stopped n t v) = allowed-part (onMachine b) _ rs ls a
 
-  shown-agreed : (z : meaning.Answer Machine Reply) → Means (head b) rs m z → Agreed (head b) (recordsOf b z rs) m (outcomeOf z)
+  shown-agreed : (z : meaning.Answer Machine Reply) → Means (onMachine b) rs m z → Agreed (onMachine b) (recordsOf b z rs) m (outcomeOf z)
   unfolding Means
   shown-agreed (meaning.settled v) h = h .1
   shown-agreed (meaning.stopped n t v) h = h .1
 
-  shown-back : (z : meaning.Answer Machine Reply) → NeverBack (head b) (recordsOf b z rs)
+  shown-back : (z : meaning.Answer Machine Reply) → NeverBack (onMachine b) (recordsOf b z rs)
   shown-back (meaning.settled v) = back
-  shown-back (meaning.stopped n t v) = back-filter (head b) _ rs back
+  shown-back (meaning.stopped n t v) = back-filter (onMachine b) _ rs back
 
-  shown-alike : (z : meaning.Answer Machine Reply) → Means (head b) rs m z → outcome (head b) (recordsOf b z ls) m ≡ outcome (head b) (recordsOf b z rs) m
+  shown-alike : (z : meaning.Answer Machine Reply) → Means (onMachine b) rs m z → outcome (onMachine b) (recordsOf b z ls) m ≡ outcome (onMachine b) (recordsOf b z rs) m
   unfolding Agreed
   shown-alike z h =
       let k = shown-agreed z h in
-      k (recordsOf b z ls) (shown-allowed z) ∙ sym (k (recordsOf b z rs) (itself (head b) (recordsOf b z rs) (shown-back z)))
+      k (recordsOf b z ls) (shown-allowed z) ∙ sym (k (recordsOf b z rs) (itself (onMachine b) (recordsOf b z rs) (shown-back z)))
 
 -- ---- the calls: e for the text, e′ for the same lines in another allowed order
 module _ {text : List ℕ} {x : Buffers} {e e′ : Ended} {b : Board} {rs ls : List Record}
-    (q : Readable text b rs) (a : Allowed (head b) rs ls) (p : Replays text x e) (p′ : Replays (spelledTrace b ls) x e′) where
+    (q : Readable text b rs) (a : Allowed (onMachine b) rs ls) (p : Replays text x e) (p′ : Replays (spelledTrace b ls) x e′) where
   abbrev start : Machine
   start = startWith b x
 
@@ -136,12 +136,12 @@ module _ {text : List ℕ} {x : Buffers} {e e′ : Ended} {b : Board} {rs ls : L
 
   -- the demand admits one answer z for both orders of the lines: e shows it of rs, e′ of ls
   pub one-answer : fit x ≡ true → ltb textLimit (length text) ≡ false →
-      (z : meaning.Answer Machine Reply) × Means (head b) rs start z × Means (head b) ls start z × (e ≡ shown b rs z) × (e′ ≡ shown b ls z)
+      (z : meaning.Answer Machine Reply) × Means (onMachine b) rs start z × Means (onMachine b) ls start z × (e ≡ shown b rs z) × (e′ ≡ shown b ls z)
   one-answer f l =
       let z = p .played f l b rs q in
       let y = p′ .played f (within false l) b ls (lines-readable b rs ls a q) in
-      let same = answers.order-of-lines (head b) rs start (z .0) (z .1) (readable-back q) ls a (y .0) (y .1) in
-      (z .0, z .1, subst (Means (head b) ls start) same (y .1), z .2, y .2 ∙ ap (shown b ls) same)
+      let same = answers.order-of-lines (onMachine b) rs start (z .0) (z .1) (readable-back q) ls a (y .0) (y .1) in
+      (z .0, z .1, subst (Means (onMachine b) ls start) same (y .1), z .2, y .2 ∙ ap (shown b ls) same)
 
   -- each record's reply follows it: of the records that are shown, played as they are written, each channel has the same records with the same replies
   pub replies-follow : fit x ≡ true → ltb textLimit (length text) ≡ false →

@@ -5,7 +5,7 @@ use Prim.Native.Nat.{ℕ, _≤_, _+_, _*_, _/_, _%_}
 use native.Mathlib.Omega.{arith}
 use lib.ListN.{getD}
 use Rattle.field.specs.Decimal.{largest}
-use Rattle.buffers.specs.Buffers.{word, resultBytes}
+use Rattle.buffers.specs.Buffers.{resultBytes}
 
 -- 'four bytes each, low byte first': the number that four bytes stand for
 abbrev wordOf : ℕ → ℕ → ℕ → ℕ → ℕ
@@ -20,13 +20,9 @@ high a h = omega arith
 word-back : (a : ℕ) → a ≤ largest → a ≡ wordOf (a % 256) (a / 256 % 256) (a / 65536 % 256) (a / 16777216 % 256)
 word-back a h = omega (arith, low a, high a h)
 
+-- below 2^32 no two numbers have the same four bytes
 bytes-one : (a b : ℕ) → a ≤ largest → b ≤ largest → a % 256 ≡ b % 256 → a / 256 % 256 ≡ b / 256 % 256 → a / 65536 % 256 ≡ b / 65536 % 256 → a / 16777216 % 256 ≡ b / 16777216 % 256 → a ≡ b
 bytes-one a b h k p q r s = word-back a h ∙ (λ i. wordOf (p i) (q i) (r i) (s i)) ∙ sym (word-back b k)
-
--- below 2^32 no two numbers have the same four bytes
-pub word-one : (a b : ℕ) → a ≤ largest → b ≤ largest → word a ≡ word b → a ≡ b
-word-one a b h k e =
-    bytes-one a b h k (ap (λ (l : List ℕ). getD l 0 0) e) (ap (λ (l : List ℕ). getD l 1 0) e) (ap (λ (l : List ℕ). getD l 2 0) e) (ap (λ (l : List ℕ). getD l 3 0) e)
 
 -- so the result says its answer, its line or stamp, and its count
 module _ (a n c a′ n′ c′ : ℕ) (e : resultBytes a n c ≡ resultBytes a′ n′ c′) where

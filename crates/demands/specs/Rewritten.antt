@@ -1,12 +1,10 @@
 -- The lines of a readable text in another allowed order are a readable text too, as long as the first: no line is of wrong form, no stamp goes back, and refusal 5 speaks of each channel by itself.
 use mathlib.Core.Path.{_≡_, refl, sym, ap, ap₂, _∙_}
 use mathlib.Core.List.{List, [], _∷_}
-use Prim.Native.Nat.{ℕ, _+_, _≤_}
-use native.Mathlib.Omega.{arith}
+use Prim.Native.Nat.{ℕ, _+_}
 use lib.ListN.{length, length-append}
-use Rattle.meaning.specs.Lists.{All, keep, filter}
+use Rattle.law.specs.Lists.{keep, filter}
 use Rattle.meaning.specs.Meaning.{F, E, same, Allowed}
-use Rattle.meaning.specs.Meaning as meaning
 use Rattle.meaning.specs.Allowing.{allowed-all}
 use Rattle.record.specs.declared.Board.{Board}
 use Rattle.record.specs.declared.Record.{Record}
@@ -14,38 +12,15 @@ use Rattle.record.specs.declared.Event.{Event}
 use Rattle.record.specs.declared.Event.the-variants as event
 use Rattle.line.specs.Records.{spelled, RecordOk}
 use Rattle.line.specs.Boards.{spelledBoard}
-use Rattle.machine.specs.Machine.{head, channelOf}
+use Rattle.machine.specs.Machine.{onMachine, channelOf}
 use Rattle.text.specs.declared.buses.Bus.{Bus}
 use Rattle.text.specs.declared.buses.Moved.{Moved}
 use Rattle.text.specs.declared.buses.Moved.the-variants.{To, Impossible}
 use Rattle.text.specs.declared.buses.Buses.{Buses}
 use Rattle.text.specs.declared.buses.Moves.{Moves}
 use Rattle.text.specs.Buses.{flashBus, eepromBus, withFlash, withEeprom, after, busesAfter}
-use Rattle.text.specs.Stamps as stamps
-use Rattle.text.specs.Texts.{spelledAll, spelledTrace, AllOk, Readable}
+use Rattle.text.specs.Texts.{spelledAll, spelledTrace, Readable}
 use Rattle.meaning.specs.Sums.{total, total-same}
-
--- ---- each line by itself
-ok-all : (rs : List Record) → AllOk rs → All RecordOk rs
-unfolding AllOk All
-ok-all [] h = tt
-ok-all (r ∷ rs) h = (h .0, ok-all rs (h .1))
-
-all-ok : (rs : List Record) → All RecordOk rs → AllOk rs
-unfolding AllOk All
-all-ok [] h = tt
-all-ok (r ∷ rs) h = (h .0, all-ok rs (h .1))
-
--- ---- the stamps
-from-zero : (rs : List Record) → All (λ (r : Record). 0 ≤ r .stamp) rs
-unfolding All
-from-zero [] = tt
-from-zero (r ∷ rs) = (omega arith, from-zero rs)
-
-one-by-one : (b : Board) (t : ℕ) (rs : List Record) → All (λ (r : Record). t ≤ r .stamp) rs → meaning.NeverBack (head b) rs → stamps.NeverBack t rs
-unfolding All meaning.NeverBack stamps.NeverBack
-one-by-one b t [] h n = tt
-one-by-one b t (r ∷ rs) h n = (h .0, one-by-one b (r .stamp) rs (n .0) (n .1))
 
 -- ---- the buses: how they stand after the records is told by the records of F and by those of E
 abbrev buses : Bus → Bus → Moves
@@ -101,7 +76,7 @@ unfolding after filter
 told [] x y x₁ y₁ = refl
 told (r ∷ rs) x y x₁ y₁ = told-event (r .event) (r .stamp) rs (told rs) x y x₁ y₁
 
-module _ (b : Board) (rs ls : List Record) (a : Allowed (head b) rs ls) where
+module _ (b : Board) (rs ls : List Record) (a : Allowed (onMachine b) rs ls) where
   pub buses-same : busesAfter ls ≡ busesAfter rs
   buses-same =
       told ls _ _ _ _ ∙ ap₂ (λ (f e : List Record). joined (busesAfter f) (busesAfter e)) (a .keeps F) (a .keeps E) ∙ sym (told rs _ _ _ _)
@@ -110,9 +85,9 @@ module _ (b : Board) (rs ls : List Record) (a : Allowed (head b) rs ls) where
   pub lines-readable : {text : List ℕ} → Readable text b rs → Readable (spelledTrace b ls) b ls
   lines-readable q = record {
     board = q .board;
-    fits = all-ok ls (allowed-all (head b) RecordOk rs ls a (ok-all rs (q .fits)));
+    fits = allowed-all (onMachine b) RecordOk rs ls a (q .fits);
     acceptable = record {
-      never-back = one-by-one b 0 ls (from-zero ls) (a .onward);
+      never-back = a .onward;
       possible = (q .acceptable .possible .0, buses-same ∙ q .acceptable .possible .1);
     };
     is = refl;
@@ -124,7 +99,7 @@ length-all [] = refl
 length-all (r ∷ rs) = length-append (spelled r) (spelledAll rs) ∙ ap (λ (n : ℕ). length (spelled r) + n) (length-all rs)
 
 -- the lines are as many bytes in either order
-pub lines-length : (b : Board) (rs ls : List Record) → Allowed (head b) rs ls → length (spelledTrace b ls) ≡ length (spelledTrace b rs)
+pub lines-length : (b : Board) (rs ls : List Record) → Allowed (onMachine b) rs ls → length (spelledTrace b ls) ≡ length (spelledTrace b rs)
 unfolding spelledTrace
 lines-length b rs ls a =
     length-append (spelledBoard b) (spelledAll ls)

@@ -14,7 +14,7 @@ use Rattle.record.specs.declared.Record.{Record}
 use Rattle.record.specs.declared.Reply.{Reply}
 use Rattle.record.specs.declared.Answer.the-variants.{Settled}
 use Rattle.record.specs.Answers.{answerNumber}
-use Rattle.machine.specs.Machine.{Machine, head}
+use Rattle.machine.specs.Machine.{Machine, onMachine}
 use Rattle.text.specs.Texts.{textLimit, Readable}
 use Rattle.buffers.specs.Buffers.{Buffers, fit, resultBytes}
 use Rattle.call.specs.Replay.{Ended, endedAs, replyLines, countTwos, padded, reasonAnswer, shownAs, shown, Replays, startWith}
@@ -31,7 +31,7 @@ stampOf (meaning.stopped n t v) = t
 
 abbrev pub recordsOf : Board → meaning.Answer Machine Reply → List Record → List Record
 recordsOf b (meaning.settled v) rs = rs
-recordsOf b (meaning.stopped n t v) rs = before (head b) t rs
+recordsOf b (meaning.stopped n t v) rs = before (onMachine b) t rs
 
 abbrev pub outcomeOf : meaning.Answer Machine Reply → Outcome Machine Reply
 outcomeOf (meaning.settled v) = v
@@ -42,25 +42,25 @@ unfolding shown
 shown-is b rs (meaning.settled v) = refl
 shown-is b rs (meaning.stopped n t v) = refl
 
-module _ (b : Board) (rs : List Record) (back : NeverBack (head b) rs) (m : Machine) where
+module _ (b : Board) (rs : List Record) (back : NeverBack (onMachine b) rs) (m : Machine) where
   -- the outcome is that of the shown records as they are written
-  pub means-lines : (z : meaning.Answer Machine Reply) → Means (head b) rs m z →
-      (outcomeOf z .state ≡ after (head b) (recordsOf b z rs) m) × (shownAt (head b) (recordsOf b z rs) (outcomeOf z) ≡ said (head b) (recordsOf b z rs) m)
+  pub means-lines : (z : meaning.Answer Machine Reply) → Means (onMachine b) rs m z →
+      (outcomeOf z .state ≡ after (onMachine b) (recordsOf b z rs) m) × (shownAt (onMachine b) (recordsOf b z rs) (outcomeOf z) ≡ said (onMachine b) (recordsOf b z rs) m)
   unfolding Means
-  means-lines (meaning.settled v) h = agreed-lines (head b) rs back m v (h .1)
-  means-lines (meaning.stopped n t v) h = agreed-lines (head b) (before (head b) t rs) (back-filter (head b) _ rs back) m v (h .1)
+  means-lines (meaning.settled v) h = agreed-lines (onMachine b) rs back m v (h .1)
+  means-lines (meaning.stopped n t v) h = agreed-lines (onMachine b) (before (onMachine b) t rs) (back-filter (onMachine b) _ rs back) m v (h .1)
 
 -- the number n, the stamp t, and what is left when the records ps were played on m as they are written
 unfoldable pub leftBy : Board → ℕ → ℕ → List Record → Machine → Ended
 leftBy b n t ps m =
     endedAs n
     (record {
-      images = after (head b) ps m .images;
-      replies = padded (replyLines ps (said (head b) ps m));
-      result = resultBytes n t (countTwos ps (said (head b) ps m));
+      images = after (onMachine b) ps m .images;
+      replies = padded (replyLines ps (said (onMachine b) ps m));
+      result = resultBytes n t (countTwos ps (said (onMachine b) ps m));
     })
 
-pub left-shown : (b : Board) (rs : List Record) → NeverBack (head b) rs → (m : Machine) (z : meaning.Answer Machine Reply) → Means (head b) rs m z →
+pub left-shown : (b : Board) (rs : List Record) → NeverBack (onMachine b) rs → (m : Machine) (z : meaning.Answer Machine Reply) → Means (onMachine b) rs m z →
     shown b rs z ≡ leftBy b (numberOf z) (stampOf z) (recordsOf b z rs) m
 unfolding shownAs leftBy
 left-shown b rs back m z h =
@@ -71,7 +71,7 @@ left-shown b rs back m z h =
 
 -- the same of the call
 pub call-left : {text : List ℕ} {x : Buffers} {e : Ended} {b : Board} {rs : List Record} → Replays text x e → fit x ≡ true → ltb textLimit (length text) ≡ false → Readable text b rs →
-    (z : meaning.Answer Machine Reply) × Means (head b) rs (startWith b x) z
+    (z : meaning.Answer Machine Reply) × Means (onMachine b) rs (startWith b x) z
     × (e ≡ leftBy b (numberOf z) (stampOf z) (recordsOf b z rs) (startWith b x))
 call-left {text} {x} {e} {b} {rs} p f l q =
     let z = p .played f l b rs q in

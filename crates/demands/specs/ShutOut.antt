@@ -14,15 +14,15 @@ use Rattle.record.specs.declared.Record.{Record}
 use Rattle.record.specs.declared.FlashEvent.the-variants as flash
 use Rattle.cell.specs.Rules.{erasedCell, storedCell}
 use Rattle.cell.specs.declared.Cell.{Cell}
-use Rattle.image.specs.declared.view.Chip.{Chip}
+use Rattle.record.specs.declared.Chip.{Chip}
 use Rattle.image.specs.Image.{Image, cellAt}
 use Rattle.image.specs.Images.{Images, keptBytes}
-use Rattle.image.proofs.Bench.{programmed-image}
+use Rattle.image.proofs.AtPlace.{programPage-erased}
 use Rattle.line.specs.Boards.{BoardOk}
-use Rattle.board.specs.Play.{movedOf}
+use Rattle.controls.specs.Play.{movedOf}
 use Rattle.machine.specs.Effects.{flashAfter, eepromAfter}
 use Rattle.machine.specs.Replies.{delivered, compared}
-use Rattle.machine.specs.Machine.{head, playOn, saysOn}
+use Rattle.machine.specs.Machine.{onMachine, playOn, saysOn}
 use Rattle.text.specs.Texts.{spelledTrace}
 use Rattle.buffers.specs.Buffers.{Buffers, fit, resultBytes}
 use Rattle.buffers.proofs.Fit.{fit-says}
@@ -51,7 +51,7 @@ module _ (f : List ℕ → Buffers → Ended) (keeps : Keeps f) (x : Buffers) (h
   board-settles b k =
       let w = board-written b k in
       ap (λ (e : Ended). e .answer)
-      (means-shown (keeps (spelledTrace b []) x) h (w .short) (w .reads) _ (means-end (head b) (startWith b x) (status-known b (x .images))))
+      (means-shown (keeps (spelledTrace b []) x) h (w .short) (w .reads) _ (means-end (onMachine b) (startWith b x) (status-known b (x .images))))
 
   -- and so is the listing's text, whatever byte was recorded for the status
   pub listing-settles : (so : ℕ) → so < 256 → f (spelledTrace plain (listing so)) x .answer ≡ 0
@@ -72,8 +72,8 @@ module _ (f : List ℕ → Buffers → Ended) (keeps : Keeps f) (x : Buffers) (h
   unfolding after playOn movedOf flashAfter eepromAfter
   image-changes k =
       ap (λ (i : Images). cellAt (i .flash) 0)
-      (settled-shows (keeps (spelledTrace plain programmed) x) h (programmed-written .short) (programmed-written .reads) program-settles programmed (itself (head plain) programmed (readable-back (programmed-written .reads))) .images)
-      ∙ programmed-image (x .images .flash) (keptBytes Chip.Flash) 0 0 _ (fit-says x h .kept Chip.Flash) (omega arith) (omega arith) k refl
+      (settled-shows (keeps (spelledTrace plain programmed) x) h (programmed-written .short) (programmed-written .reads) program-settles programmed (itself (onMachine plain) programmed (readable-back (programmed-written .reads))) .images)
+      ∙ programPage-erased (x .images .flash) (keptBytes Chip.Flash) (fit-says x h .kept Chip.Flash) 0 _ (omega arith) 0 (omega arith) k 0xa5 refl
 
   -- its last record, `end` at the third stamp, has the reply bytes 6, 0, 0, 0: the cycle ends
   pub last-stamp-played : take 4 (drop 40 (f (spelledTrace plain programmed) x .buffers .replies)) ≡ 6 ∷ 0 ∷ 0 ∷ 0 ∷ []
@@ -82,7 +82,7 @@ module _ (f : List ℕ → Buffers → Ended) (keeps : Keeps f) (x : Buffers) (h
       each-reply (keeps (spelledTrace plain programmed) x) h (programmed-written .short) (programmed-written .reads) (wren 10 ++ sent) (onF 30 flash.End) [] refl program-settles
 
   -- the listing's count is 0 where the status 00 was recorded as 00, and 1 where it was recorded as 01
-  counted : (so : ℕ) → so < 256 → f (spelledTrace plain (listing so)) x .buffers .result ≡ resultBytes 0 0 (countTwos (listing so) (said (head plain) (listing so) (startWith plain x)))
+  counted : (so : ℕ) → so < 256 → f (spelledTrace plain (listing so)) x .buffers .result ≡ resultBytes 0 0 (countTwos (listing so) (said (onMachine plain) (listing so) (startWith plain x)))
   counted so k =
       settled-count (keeps (spelledTrace plain (listing so)) x) h (listing-written so k .short) (listing-written so k .reads) (listing-settles so k)
 

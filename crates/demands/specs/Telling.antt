@@ -1,4 +1,4 @@
--- Two outcomes of the head can be told apart: a state and its replies are numbers and lists of numbers.
+-- Two outcomes of the machine can be told apart: a state and its replies are numbers and lists of numbers.
 use mathlib.Core.Path.{_≡_, refl, sym, ap, ap₂, _∙_}
 use mathlib.Core.Bool.{Bool, true, false, Bool·beq}
 use mathlib.Core.Logic.{_⊎_, inl, inr}
@@ -7,21 +7,21 @@ use Prim.Native.Nat.{ℕ}
 use native.Mathlib.Omega.{arith}
 use lib.Dec.{eqb}
 use Rattle.law.specs.declared.Numbers.{Numbers}
-use Rattle.law.specs.Choice.{pick, split}
+use Rattle.law.specs.Choice.{split}
 use Rattle.law.specs.Deciding.{Decides, decides-true, decides-false, decides-as, eqb-decides, beq-decides}
-use Rattle.meaning.specs.Lists.{All}
+use Rattle.law.specs.Lists.{All}
 use Rattle.meaning.specs.Meaning.{Channel, Outcome}
 use Rattle.meaning.specs.Channels.{channels, every-channel}
 use Rattle.record.specs.declared.Lines.{Lines}
 use Rattle.record.specs.declared.Reply.{Reply}
-use Rattle.record.specs.declared.Reply.the-variants.{NotPlayed, Silent, Byte, Ack, NoAck, Starts, Ends, NoCycle}
 use Rattle.record.specs.Replies.{replyKind, replyValue, replyMask}
+use Rattle.record.specs.ReplyOf.{replyOf, reply-back}
 use Rattle.flash.specs.declared.Flash.{Flash}
 use Rattle.flash.specs.Equal as flash-equal
 use Rattle.eeprom.specs.declared.Eeprom.{Eeprom}
 use Rattle.eeprom.specs.Same as eeprom-same
 use Rattle.eeprom.proofs.ByNumbers as eeprom-equal
-use Rattle.board.specs.declared.Controls.{Controls}
+use Rattle.controls.specs.declared.Controls.{Controls}
 use Rattle.image.specs.Image.{Image}
 use Rattle.image.specs.Images.{Images}
 use Rattle.machine.specs.Machine.{Machine}
@@ -84,7 +84,7 @@ eeprom a b =
     (λ p i. record { frame = p .0 i; cycle = p .1 .0 i; counter = p .1 .1 .0 i; page = p .1 .1 .1 i })
     (λ e. (ap (λ (k : Eeprom). k .frame) e, (ap (λ (k : Eeprom). k .cycle) e, (ap (λ (k : Eeprom). k .counter) e, ap (λ (k : Eeprom). k .page) e))))
 
--- ---- the head
+-- ---- the machine
 lines : (a b : Lines) → Tells (a ≡ b)
 lines a b =
     same (both (flag (a .supply) (b .supply)) (flag (a .lock) (b .lock))) (λ p i. record { supply = p .0 i; lock = p .1 i })
@@ -112,26 +112,6 @@ machine a b =
     (λ e. (ap (λ (k : Machine). k .controls) e, ap (λ (k : Machine). k .images) e))
 
 -- ---- a reply, by its kind, its value and its mask
-abbrev replyOf : ℕ → ℕ → ℕ → Reply
-replyOf k v m =
-    pick (eqb k 0) NotPlayed
-    (pick (eqb k 1) Silent
-    (pick (eqb k 2) (Byte v m)
-    (pick (eqb k 3) Ack
-    (pick (eqb k 4) NoAck
-    (pick (eqb k 5) Starts
-    (pick (eqb k 6) Ends NoCycle))))))
-
-reply-back : (y : Reply) → replyOf (replyKind y) (replyValue y) (replyMask y) ≡ y
-reply-back NotPlayed = refl
-reply-back Silent = refl
-reply-back (Byte v m) = refl
-reply-back Ack = refl
-reply-back NoAck = refl
-reply-back Starts = refl
-reply-back Ends = refl
-reply-back NoCycle = refl
-
 reply : (a b : Reply) → Tells (a ≡ b)
 reply a b =
     same (both (number (replyKind a) (replyKind b)) (both (number (replyValue a) (replyValue b)) (number (replyMask a) (replyMask b))))

@@ -3,18 +3,21 @@
 ghost use mathlib.Core.Path.{_≡_};
 ghost use Prim.Native.Nat.{_+_, _≤_, min};
 ghost use lib.ListN.{length, take, replicate};
+ghost use Rattle.meaning.specs.Sums.{mostInAll};
+ghost use Rattle.text.specs.Texts.{textLimit};
 ghost use Rattle.image.specs.Images.{imagesOf, perChip};
 ghost use Rattle.image.specs.View.{viewPlace, viewLength};
-ghost use Rattle.buffers.specs.Buffers.{buffersOf, repliesLength, resultAfter};
+ghost use Rattle.record.specs.Lengths.{repliesLength, resultLength};
+ghost use Rattle.buffers.specs.Buffers.{buffersOf, resultAfter};
 ghost use Rattle.record.specs.Answers.{answerNumber};
 ghost use Rattle.call.specs.Play.{twos, deskOf, stepDesk, runDesk};
-ghost use Rattle.call.specs.Replay.{endedAs, Replays, chipOf, stopOf, goesOn};
-ghost use Rattle.call.specs.Run.{endedWith, Runs};
-use board::Controls;
-use image::view::Chip;
+ghost use Rattle.call.specs.Replay.{endedAs, Replays, chipOf};
+ghost use Rattle.call.specs.Run.{endedWith, Runs, stopOf, goesOn};
+use controls::Controls;
 use orders::Verdict;
 use record::Answer;
 use record::Board;
+use record::Chip;
 use record::Match;
 use record::Record;
 use text::Checked;
@@ -75,7 +78,7 @@ struct Done {
 fn play_all(
     board: Board,
     controls: Controls,
-    records: [Record; 18],
+    records: [Record; orders::MOST_IN_ALL],
     many: usize,
     number: usize,
     count: u32,
@@ -85,10 +88,10 @@ fn play_all(
     eeprom_mask: &mut [u8],
     replies: &mut [u8],
 ) -> Done
-    requires { ⌜ (many ≤ 18) × (count ≤ 500000) × (number ≤ 500000) ⌝ }
+    requires { ⌜ (many ≤ mostInAll) × (count ≤ 500000) × (number ≤ 500000) ⌝ }
     ensures { λ r. ⌜ deskOf (r .controls) (imagesOf (now (flash .exit)) (now («flash_mask» .exit)) (now (eeprom .exit)) (now («eeprom_mask» .exit))) (now (replies .exit)) (r .number) (r .count)
         ≡ runDesk board (take many records) (deskOf controls (imagesOf (now (flash .entry)) (now («flash_mask» .entry)) (now (eeprom .entry)) (now («eeprom_mask» .entry))) (now (replies .entry)) number count) ⌝ }
-    ensures { λ r. ⌜ (r .number ≤ number + 18) × (r .count ≤ count + 18) ⌝ }
+    ensures { λ r. ⌜ (r .number ≤ number + mostInAll) × (r .count ≤ count + mostInAll) ⌝ }
 {
     let mut cur = controls;
     let mut c = count;
@@ -147,11 +150,15 @@ fn passes(v: Verdict) -> bool
     }
 }
 
-// 18 at the most.
+// No more than may share a stamp.
 fn at_most(n: usize) -> usize
-    ensures { λ r. ⌜ r ≡ min n 18 ⌝ }
+    ensures { λ r. ⌜ r ≡ min n mostInAll ⌝ }
 {
-    if n < 18 { n } else { 18 }
+    if n < orders::MOST_IN_ALL {
+        n
+    } else {
+        orders::MOST_IN_ALL
+    }
 }
 
 // Stamp by stamp: judged on the controls, then played.
@@ -165,7 +172,7 @@ fn run(
     eeprom_mask: &mut [u8],
     replies: &mut [u8],
 ) -> End
-    requires { ⌜ length (now text) ≤ 65536 ⌝ }
+    requires { ⌜ length (now text) ≤ textLimit ⌝ }
     ensures { λ r. ⌜ Runs (now (text .entry)) first board (imagesOf (now (flash .entry)) (now («flash_mask» .entry)) (now (eeprom .entry)) (now («eeprom_mask» .entry))) (now (replies .entry))
         (endedWith (r .answer) (r .stamp) (r .count) (imagesOf (now (flash .exit)) (now («flash_mask» .exit)) (now (eeprom .exit)) (now («eeprom_mask» .exit))) (now (replies .exit))) ⌝ }
 {
@@ -231,7 +238,7 @@ fn replay(
     replies: &mut [u8],
     result: &mut [u8],
 ) -> u32
-    requires { ⌜ (length (now text) ≤ 65536) × (length (now replies) ≡ 40000) × (length (now result) ≡ 12) ⌝ }
+    requires { ⌜ (length (now text) ≤ textLimit) × (length (now replies) ≡ repliesLength) × (length (now result) ≡ resultLength) ⌝ }
     ensures { λ r. ⌜ Runs (now (text .entry)) first board (imagesOf (now (flash .entry)) (now («flash_mask» .entry)) (now (eeprom .entry)) (now («eeprom_mask» .entry))) (replicate repliesLength 0)
         (endedAs r (buffersOf (now (flash .exit)) (now («flash_mask» .exit)) (now (eeprom .exit)) (now («eeprom_mask» .exit)) (now (replies .exit)) (now (result .exit)))) ⌝ }
 {

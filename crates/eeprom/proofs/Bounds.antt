@@ -11,18 +11,20 @@ use lib.ListN.{getD, length-set, length-replicate, getD-replicate}
 use lib.Seq.{getD-set-other, ext-getD}
 use borrow.Author.Tests.{ltb-true, ltb-false, le-ltb, eqb-false}
 use Rattle.law.specs.Choice.{pick, split, of-both, true-not-false}
+use Rattle.page.specs.Geometry.{eepromSize}
+use Rattle.page.specs.Rolling.{sentPlace}
 use Rattle.record.specs.declared.Skeleton.the-variants.{Ack, NoAck, Starts}
 use Rattle.record.specs.declared.EepromEvent.{EepromEvent}
 use Rattle.record.specs.declared.EepromEvent.the-variants.{Start, Byte, Cut, Stop, End}
 use Rattle.record.specs.declared.LineEvent.{LineEvent}
 use Rattle.record.specs.declared.LineEvent.the-variants.{SupplyOn, SupplyOff, LockOn, LockOff}
 use Rattle.record.specs.declared.Lines.{Lines}
-use Rattle.eeprom.specs.Chip.{blank, runningOf, inFrame, answered, silentIn, placeOf, chipSize}
-use Rattle.eeprom.specs.Write.{nextInPage, counted, firstSent, sentBy, isSent}
+use Rattle.eeprom.specs.Chip.{blank, runningOf, inFrame, answered, silentIn, placeOf}
+use Rattle.eeprom.specs.Write.{nextInPage, counted, firstSent, sentBy}
 use Rattle.eeprom.specs.Frame.{ownAddress, openedBy, addressOf, movedOn, afterRead, dataByte, byteIn}
 use Rattle.eeprom.specs.Step.{writeEnds, stopIn, endOf, poweredOf, unpoweredOf, stepOf, voidedBy, offOf}
 use Rattle.eeprom.specs.Side.{Side, sideStart, sideBus, sideLine}
-use Rattle.eeprom.specs.Good.{CounterGood, FrameGood, Waits, FrameIn, SentGood, countOf, Parts, ChipGood, Shut, Dark, Good}
+use Rattle.eeprom.specs.Good.{CounterGood, FrameGood, Waits, FrameIn, SentGood, countOf, Fields, ChipGood, Shut, Dark, Good}
 use Rattle.eeprom.specs.declared.EepromFrame.{EepromFrame}
 use Rattle.eeprom.specs.declared.EepromFrame.the-variants.{Idle, Void, Opened, Addressed, Half, Taking, Reading}
 use Rattle.eeprom.specs.declared.EepromCycle.{EepromCycle}
@@ -31,7 +33,7 @@ use Rattle.eeprom.specs.declared.EepromCounter.{EepromCounter}
 use Rattle.eeprom.specs.declared.EepromCounter.the-variants.{Lost, At}
 use Rattle.eeprom.specs.declared.Eeprom.{Eeprom}
 use Rattle.eeprom.specs.declared.EepromStep.{EepromStep}
-use Rattle.page.specs.Laws.{rolled-small}
+use Rattle.page.specs.Laws.{rolled-small, sent-all}
 use Rattle.eeprom.proofs.Rolling.{next-low, next-small, counted-less, counted-small, first-less, first-all, first-small}
 
 abbrev StepGood : EepromStep → Type 0
@@ -41,7 +43,7 @@ abbrev chip : EepromFrame → EepromCycle → EepromCounter → List ℕ → Eep
 chip f c n p = record { frame = f; cycle = c; counter = n; page = p }
 
 -- ---- a page without data is blank
-module _ (f : EepromFrame) (n : EepromCounter) (p : List ℕ) (h : Parts f None n p) (none : countOf f ≡ 0) where
+module _ (f : EepromFrame) (n : EepromCounter) (p : List ℕ) (h : Fields f None n p) (none : countOf f ≡ 0) where
   all-empty : (q : ℕ) → q < 64 → getD p q 0 ≡ 0
   all-empty q l =
       h .empty q l
@@ -55,7 +57,7 @@ module _ (f : EepromFrame) (n : EepromCounter) (p : List ℕ) (h : Parts f None 
       all-empty q m ∙ sym (getD-replicate {A = ℕ} 64 q 0 0 m))
 
   -- and stays so in another frame, with another counter
-  unsent : (g : EepromFrame) (m : EepromCounter) → FrameGood g m → CounterGood m → Parts g None m p
+  unsent : (g : EepromFrame) (m : EepromCounter) → FrameGood g m → CounterGood m → Fields g None m p
   unsent g m i j =
       record {
         in-frame = i;
@@ -65,7 +67,7 @@ module _ (f : EepromFrame) (n : EepromCounter) (p : List ℕ) (h : Parts f None 
         empty = λ q l e. all-empty q l;
       }
 
-blank-good : (f : EepromFrame) (n : EepromCounter) → FrameGood f n → CounterGood n → Parts f None n blank
+blank-good : (f : EepromFrame) (n : EepromCounter) → FrameGood f n → CounterGood n → Fields f None n blank
 blank-good f n h k =
     record {
       in-frame = h;
@@ -75,7 +77,7 @@ blank-good f n h k =
       empty = λ q l e. getD-replicate {A = ℕ} 64 q 0 0 l;
     }
 
-in-frame-good : (c : EepromCycle) (f g : EepromFrame) (n : EepromCounter) (p : List ℕ) → Parts g c n p → FrameIn c f n → ChipGood (inFrame (chip g c n p) f)
+in-frame-good : (c : EepromCycle) (f g : EepromFrame) (n : EepromCounter) (p : List ℕ) → Fields g c n p → FrameIn c f n → ChipGood (inFrame (chip g c n p) f)
 in-frame-good None f g n p h k = blank-good f n k (h .in-counter)
 in-frame-good (Write s) f g n p h k =
     record {
@@ -108,10 +110,8 @@ by-address false n = tt
 
 -- ---- one data byte more
 -- after 64 bytes no place is left
-all-sent : (p n q : ℕ) → 64 ≤ n → q < 64 → isSent (sentBy p n) q ≡ false → ⊥
-all-sent p n q m l e =
-    let z : n ≤ (q + (64 - firstSent p n)) % 64 = ltb-false _ _ e in
-    let w : n ≤ (q + (64 - 0)) % 64 = rw (first-all p n m) at z in omega arith
+all-sent : (p n q : ℕ) → 64 ≤ n → sentPlace 64 (firstSent p n) n q ≡ false → ⊥
+all-sent p n q m e = true-not-false (sym (sent-all 64 (firstSent p n) (first-small p n) n q m) ∙ e)
 
 -- the first place stays while some are left
 first-stays : (a k : ℕ) → k + 1 < 64 → ((a + 1) % 64 + (64 - (k + 1))) % 64 ≡ (a + (64 - k)) % 64
@@ -124,9 +124,9 @@ is-next a k h l = omega arith
 full : (k : ℕ) → k ≤ 64 → 63 ≤ k → 64 ≤ counted k
 full k h m = split (ltb k 64) (λ t. let l = ltb-true k 64 t in simp (t) (omega arith)) (λ t. simp (t) (omega arith))
 
-module _ (k p b : ℕ) (page : List ℕ) (small : k ≤ 64) (inside : p < chipSize) where
+module _ (k p b : ℕ) (page : List ℕ) (small : k ≤ 64) (inside : p < eepromSize) where
   -- a place that is not sent after a byte was not sent before it, and is not the byte's
-  before : (q : ℕ) → q < 64 → isSent (sentBy (nextInPage p) (counted k)) q ≡ false → (isSent (sentBy p k) q ≡ false) × (q ≡ p % 64 → ⊥)
+  before : (q : ℕ) → q < 64 → sentPlace 64 (firstSent (nextInPage p) (counted k)) (counted k) q ≡ false → (sentPlace 64 (firstSent p k) k q ≡ false) × (q ≡ p % 64 → ⊥)
   before q l e =
       split (ltb k 63)
       (λ t.
@@ -141,9 +141,9 @@ module _ (k p b : ℕ) (page : List ℕ) (small : k ≤ 64) (inside : p < chipSi
       (λ t.
       let m = ltb-false k 63 t in
       let g : 64 ≤ counted k = full k small m in
-      absurd (all-sent (nextInPage p) (counted k) q g l e))
+      absurd (all-sent (nextInPage p) (counted k) q g e))
 
-  data-good : Parts (Taking k) None (At p) page → StepGood (dataByte (chip (Taking k) None (At p) page) k b)
+  data-good : Fields (Taking k) None (At p) page → StepGood (dataByte (chip (Taking k) None (At p) page) k b)
   data-good h =
       record {
         in-frame = (counted-small k, tt);
@@ -159,15 +159,15 @@ read-frame false n = tt
 
 moved-good : (n : EepromCounter) → CounterGood n → CounterGood (movedOn n)
 moved-good Lost h = tt
-moved-good (At p) h = let l = rolled-small 32767 p (omega arith) in omega arith
+moved-good (At p) h = let l = rolled-small (eepromSize - 1) p in omega arith
 
-address-small : (h b : ℕ) → addressOf h b < chipSize
+address-small : (h b : ℕ) → addressOf h b < eepromSize
 address-small h b = omega arith
 
 half-small : (b : ℕ) → b % 128 < 128
 half-small b = omega arith
 
-byte-good : (f : EepromFrame) (c : EepromCycle) (n : EepromCounter) (p : List ℕ) (b : ℕ) (bit : Bool) (w : ℕ) → Parts f c n p
+byte-good : (f : EepromFrame) (c : EepromCycle) (n : EepromCounter) (p : List ℕ) (b : ℕ) (bit : Bool) (w : ℕ) → Fields f c n p
     → StepGood (byteIn f (chip f c n p) b bit w)
 byte-good Idle c n p b bit w h = h
 byte-good Void c n p b bit w h = h
@@ -193,7 +193,7 @@ byte-good Reading None n p b bit w h =
 byte-good Reading (Write s) n p b bit w h = absurd (h .in-frame)
 
 -- ---- `sto`
-sent-good : (p k : ℕ) → p < chipSize → k ≤ 64 → (k ≡ 0 → ⊥) → SentGood (sentBy p k) p
+sent-good : (p k : ℕ) → p < eepromSize → k ≤ 64 → (k ≡ 0 → ⊥) → SentGood (sentBy p k) p
 sent-good p k h l z =
     record {
       in-chip = omega arith;
@@ -205,7 +205,7 @@ sent-good p k h l z =
       past = λ m. rw (first-less p k m) (omega arith);
     }
 
-write-good : (n : EepromCounter) (k : ℕ) (p : List ℕ) (lock : Bool) → Parts (Taking k) None n p → StepGood (writeEnds (chip (Taking k) None n p) k lock)
+write-good : (n : EepromCounter) (k : ℕ) (p : List ℕ) (lock : Bool) → Fields (Taking k) None n p → StepGood (writeEnds (chip (Taking k) None n p) k lock)
 write-good Lost k p lock h = absurd (h .in-frame .1)
 write-good (At a) k p lock h =
     let x = chip (Taking k) None (At a) p in
@@ -222,7 +222,7 @@ write-good (At a) k p lock h =
       empty = h .empty;
     }))
 
-stop-good : (f : EepromFrame) (c : EepromCycle) (n : EepromCounter) (p : List ℕ) (lock : Bool) → Parts f c n p → StepGood (stopIn f (chip f c n p) lock)
+stop-good : (f : EepromFrame) (c : EepromCycle) (n : EepromCounter) (p : List ℕ) (lock : Bool) → Fields f c n p → StepGood (stopIn f (chip f c n p) lock)
 stop-good Idle c n p lock h = in-frame-good c Idle Idle n p h (idle-in c n)
 stop-good Void c n p lock h = in-frame-good c Idle Void n p h (idle-in c n)
 stop-good (Opened b) c n p lock h = in-frame-good c Idle (Opened b) n p h (idle-in c n)
@@ -242,7 +242,7 @@ waits-good (Half high) n h = absurd h
 waits-good (Taking k) n h = absurd h
 waits-good Reading n h = tt
 
-end-good : (c : EepromCycle) (f : EepromFrame) (n : EepromCounter) (p : List ℕ) → Parts f c n p → StepGood (endOf (chip f c n p))
+end-good : (c : EepromCycle) (f : EepromFrame) (n : EepromCounter) (p : List ℕ) → Fields f c n p → StepGood (endOf (chip f c n p))
 end-good None f n p h = h
 end-good (Write s) f n p h = blank-good f n (waits-good f n (h .in-frame)) (h .in-counter)
 

@@ -12,7 +12,8 @@ use lib.Seq.{ext-getD}
 use borrow.Author.Tests.{ltb-true, ltb-false, lt-ltb}
 use Rattle.law.specs.Choice.{split, true-not-false}
 use Rattle.eeprom.specs.Chip.{runningOf, placeOf}
-use Rattle.eeprom.specs.Write.{firstSent, sentBy, isSent}
+use Rattle.page.specs.Rolling.{sentPlace}
+use Rattle.eeprom.specs.Write.{firstSent, sentBy}
 use Rattle.eeprom.specs.Good.{FrameGood, Waits, FrameIn, SentGood, CycleIn, countOf, sentIn, ChipGood}
 use Rattle.eeprom.specs.declared.Sent.{Sent}
 use Rattle.eeprom.specs.declared.EepromFrame.{EepromFrame}
@@ -27,7 +28,7 @@ use Rattle.eeprom.proofs.Bounds.{is-next}
 
 -- the same places were sent
 abbrev pub SamePlaces : Sent → Sent → Type 0
-SamePlaces s t = (q : ℕ) → q < 64 → isSent s q ≡ isSent t q
+SamePlaces s t = (q : ℕ) → q < 64 → sentPlace 64 (s .first) (s .count) q ≡ sentPlace 64 (t .first) (t .count) q
 
 -- what is sent by one is sent by the other
 passes : (s t : Sent) → SamePlaces s t → (q : ℕ) → q < 64 → (q + (64 - s .first)) % 64 < s .count → (q + (64 - t .first)) % 64 < t .count
@@ -166,7 +167,7 @@ pub record Alike (x y : Eeprom) : Type 0 where
   pub cycles : runningOf (x .cycle) ≡ runningOf (y .cycle)
   pub pages : pageNumber (x .cycle) ≡ pageNumber (y .cycle)
   pub places : SamePlaces (sentOf x) (sentOf y)
-  pub bytes : (q : ℕ) → q < 64 → isSent (sentOf x) q ≡ true → getD (x .page) q 0 ≡ getD (y .page) q 0
+  pub bytes : (q : ℕ) → q < 64 → sentPlace 64 (sentOf x .first) (sentOf x .count) q ≡ true → getD (x .page) q 0 ≡ getD (y .page) q 0
 
 count-small : (f : EepromFrame) (n : EepromCounter) → FrameGood f n → countOf f ≤ 64
 count-small Idle n h = omega arith
@@ -196,13 +197,13 @@ parts-same (Write s) (Write t) f g n hf hg hc hd r e same =
     (ap Write (places-decide s t (placeOf n) (placeOf n) hc hd e same), count-none f hf ∙ sym (count-none g hg))
 
 page-same : (s t : Sent) (p r : List ℕ) → length p ≡ 64 → length r ≡ 64
-    → ((q : ℕ) → q < 64 → isSent s q ≡ false → getD p q 0 ≡ 0) → ((q : ℕ) → q < 64 → isSent t q ≡ false → getD r q 0 ≡ 0)
-    → SamePlaces s t → ((q : ℕ) → q < 64 → isSent s q ≡ true → getD p q 0 ≡ getD r q 0) → p ≡ r
+    → ((q : ℕ) → q < 64 → sentPlace 64 (s .first) (s .count) q ≡ false → getD p q 0 ≡ 0) → ((q : ℕ) → q < 64 → sentPlace 64 (t .first) (t .count) q ≡ false → getD r q 0 ≡ 0)
+    → SamePlaces s t → ((q : ℕ) → q < 64 → sentPlace 64 (s .first) (s .count) q ≡ true → getD p q 0 ≡ getD r q 0) → p ≡ r
 page-same s t p r lp lr zp zr same data′ =
     ext-getD 0 p r (lp ∙ sym lr)
     (λ q l.
     let h : q < 64 = subst (λ (n : ℕ). q < n) lp l in
-    split (isSent s q) (λ b. data′ q h b) (λ b. zp q h b ∙ sym (zr q h (sym (same q h) ∙ b))))
+    split (sentPlace 64 (s .first) (s .count) q) (λ b. data′ q h b) (λ b. zp q h b ∙ sym (zr q h (sym (same q h) ∙ b))))
 
 pub canonical : (x y : Eeprom) → ChipGood x → ChipGood y → Alike x y → x ≡ y
 canonical x y h k a =

@@ -18,7 +18,7 @@ use Rattle.eeprom.specs.Write.{sentBy}
 use Rattle.eeprom.specs.Frame.{ownAddress, openedBy, movedOn, afterRead, byteIn}
 use Rattle.eeprom.specs.Step.{writeEnds, stopIn, endOf, poweredOf, unpoweredOf, stepOf, offOf}
 use Rattle.eeprom.specs.Side.{Side, sideBus, sideSays}
-use Rattle.eeprom.specs.Good.{Waits, FrameIn, Parts, ChipGood, Shut, Dark, Good}
+use Rattle.eeprom.specs.Good.{Waits, FrameIn, Fields, ChipGood, Shut, Dark, Good}
 use Rattle.eeprom.specs.Told.{Writing, runsIn, runsOf, Told, told, cycleTold, hintTold, FrameTold, CounterTold, Tracks, eepromControl}
 use Rattle.eeprom.specs.declared.EepromFrame.{EepromFrame}
 use Rattle.eeprom.specs.declared.EepromFrame.the-variants.{Idle, Void, Opened, Addressed, Half, Taking, Reading}
@@ -99,7 +99,7 @@ module _ (b : ℕ) (bit : Bool) (w : ℕ) where
         tells = tt;
       })
 
-  byte-keeps : (f : EepromFrame) (c : EepromCycle) (n : EepromCounter) (p : List ℕ) (t : Told) → Parts f c n p → FrameTold f p t → CounterTold n (t .counter)
+  byte-keeps : (f : EepromFrame) (c : EepromCycle) (n : EepromCounter) (p : List ℕ) (t : Told) → Fields f c n p → FrameTold f p t → CounterTold n (t .counter)
       → Keeps (chip f c n p) t (Byte b bit) (byteIn f (chip f c n p) b bit w)
   unfolding Telling
   byte-keeps Idle c n p t h q k = record { says = refl; tracks = record { frame-told = tt; counter-told = k }; tells = tt }
@@ -146,7 +146,7 @@ write-keeps m a p t lock q k =
     (all-told x t Stop begins (Taking m) (At a) p (q .0) k (q .1)
     (record { says = (refl, refl); tracks = record { frame-told = tt; counter-told = refl }; tells = tt })))
 
-stop-keeps : (f : EepromFrame) (c : EepromCycle) (n : EepromCounter) (p : List ℕ) (t : Told) (lock : Bool) → Parts f c n p → FrameTold f p t → CounterTold n (t .counter)
+stop-keeps : (f : EepromFrame) (c : EepromCycle) (n : EepromCounter) (p : List ℕ) (t : Told) (lock : Bool) → Fields f c n p → FrameTold f p t → CounterTold n (t .counter)
     → Keeps (chip f c n p) t Stop (stopIn f (chip f c n p) lock)
 stop-keeps Idle c n p t lock h q k = idle-keeps (chip Idle c n p) t k
 stop-keeps Void c n p t lock h q k = idle-keeps (chip Void c n p) t k

@@ -4,5 +4,5 @@ pub mod Rolling
 pub mod Bounds
 pub mod Canonical
 pub mod Written
-pub mod Cases
+pub mod Worked
 pub mod Laws

@@ -4,10 +4,10 @@ use Prim.Native.Nat.{ℕ, _+_, _-_, _*_, _/_, _%_, _<_, _≤_}
 use native.Mathlib.Omega.{arith}
 use mathlib.Core.Path.{_≡_}
 use lib.Dec.{ltb}
-use borrow.Author.Tests.{ltb-true, ltb-false, lt-ltb, le-ltb}
+use borrow.Author.Tests.{ltb-true, lt-ltb, le-ltb}
 use Rattle.law.specs.Choice.{split}
+use Rattle.page.specs.Geometry.{eepromSize}
 use Rattle.page.specs.Laws.{rolled-mod}
-use Rattle.eeprom.specs.Chip.{chipSize}
 use Rattle.eeprom.specs.Write.{nextInPage, counted, firstSent}
 
 -- ---- the page stays, the low six bits go on
@@ -20,7 +20,7 @@ next-page p = rw (next-is p) (omega arith)
 pub next-low : (p : ℕ) → nextInPage p % 64 ≡ (p % 64 + 1) % 64
 next-low p = rw (next-is p) (omega arith)
 
-pub next-small : (p : ℕ) → p < chipSize → nextInPage p < chipSize
+pub next-small : (p : ℕ) → p < eepromSize → nextInPage p < eepromSize
 next-small p h = rw (next-is p) (omega arith)
 
 -- ---- the count and the first place, by cases

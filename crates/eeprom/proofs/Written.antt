@@ -10,10 +10,11 @@ use lib.Dec.{ltb, eqb}
 use lib.ListN.{length, set}
 use borrow.Author.Tests.{ltb-true, ltb-false, le-ltb, ne-eqb}
 use Rattle.law.specs.Choice.{pick, split}
+use Rattle.page.specs.Geometry.{eepromSize}
 use Rattle.page.specs.Rolling.{roll}
 use Rattle.record.specs.declared.Skeleton.the-variants.{Ack, Starts}
 use Rattle.record.specs.declared.EepromEvent.the-variants.{Start, Byte}
-use Rattle.eeprom.specs.Chip.{blank, inFrame, answered, chipSize}
+use Rattle.eeprom.specs.Chip.{blank, inFrame, answered}
 use Rattle.eeprom.specs.Write.{nextInPage, counted, firstSent, sentBy}
 use Rattle.eeprom.specs.Frame.{ownAddress, addressOf, addressByte}
 use Rattle.eeprom.specs.Step.{writeEnds, stopOf, stepOf}
@@ -55,7 +56,7 @@ count-next k n h =
 place-next : (p n : ℕ) → nextInPage p / 64 * 64 + (nextInPage p % 64 + n) % 64 ≡ p / 64 * 64 + (p % 64 + suc n) % 64
 place-next p n = rw (next-page p, next-low p) (ap (λ (m : ℕ). p / 64 * 64 + m) (mod-add-mod (p % 64 + 1) 64 n ∙ ap (λ (m : ℕ). m % 64) (omega arith)))
 
-pub takes-is : (lock bit : Bool) (w : ℕ) (ds : List ℕ) (k p : ℕ) (page : List ℕ) → k ≤ 64 → p < chipSize
+pub takes-is : (lock bit : Bool) (w : ℕ) (ds : List ℕ) (k p : ℕ) (page : List ℕ) → k ≤ 64 → p < eepromSize
     → takes lock w bit (taking k p page) ds ≡ taking (upTo (k + length ds)) (p / 64 * 64 + (p % 64 + length ds) % 64) (roll 64 (p % 64) ds page)
 unfolding takes
 takes-is lock bit w [] k p page h l = taking-cong (none k h) (omega arith) refl
@@ -104,7 +105,7 @@ ended : (k p : ℕ) (page : List ℕ) (s : Sent) → eqb k 0 ≡ false → sentB
     → writeEnds (taking k p page) k false ≡ answered (record { frame = Idle; cycle = Write s; counter = At p; page = page }) Starts
 ended k p page s e g = simp (e, g)
 
-pub written : (lock bit : Bool) (w : ℕ) (ds : List ℕ) (a : ℕ) → a < chipSize → 1 ≤ length ds
+pub written : (lock bit : Bool) (w : ℕ) (ds : List ℕ) (a : ℕ) → a < eepromSize → 1 ≤ length ds
     → stopOf (takes lock w bit (taking 0 a blank) ds) false
     ≡ answered
     (record {

@@ -1,11 +1,11 @@
 -- The EEPROM's state, and what its rules share (document 01, 'EEPROM rules', 'Bytes and doubt').
-use Prim.Native.Nat.{ℕ, _-_}
+use Prim.Native.Nat.{ℕ}
 use mathlib.Core.Bool.{Bool, true, false}
 use mathlib.Core.List.{List}
 use lib.ListN.{replicate}
 use Rattle.record.specs.declared.Skeleton.{Skeleton}
 use Rattle.record.specs.declared.Skeleton.the-variants.{Silent}
-use Rattle.page.specs.Geometry.{eepromPage, eepromSize}
+use Rattle.page.specs.Geometry.{eepromPage}
 use Rattle.eeprom.specs.declared.EepromFrame.{EepromFrame}
 use Rattle.eeprom.specs.declared.EepromFrame.the-variants.{Idle}
 use Rattle.eeprom.specs.declared.EepromCycle.{EepromCycle}
@@ -15,22 +15,9 @@ use Rattle.eeprom.specs.declared.EepromCounter.the-variants.{Lost, At}
 use Rattle.eeprom.specs.declared.Eeprom.{Eeprom}
 use Rattle.eeprom.specs.declared.EepromStep.{EepromStep}
 
--- the chip's page, and all its places
-abbrev pub pageSize : ℕ
-pageSize = eepromPage
-
-abbrev pub lastInPage : ℕ
-lastInPage = pageSize - 1
-
-abbrev pub chipSize : ℕ
-chipSize = eepromSize
-
-abbrev pub lastPlace : ℕ
-lastPlace = chipSize - 1
-
 -- a page to which nothing was sent
 abbrev pub blank : List ℕ
-blank = replicate pageSize 0
+blank = replicate eepromPage 0
 
 -- at the start the chip is idle and its counter lost ('Bytes and doubt')
 abbrev pub startOf : Eeprom

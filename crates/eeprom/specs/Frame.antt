@@ -1,12 +1,13 @@
 -- The bytes of a frame with the supply on (document 01, 'EEPROM rules').
-use Prim.Native.Nat.{ℕ, _+_, _*_, _/_, _%_}
+use Prim.Native.Nat.{ℕ, _+_, _-_, _*_, _/_, _%_}
 use mathlib.Core.Bool.{Bool, true, false}
 use lib.Dec.{eqb}
 use Rattle.law.specs.Choice.{pick}
+use Rattle.page.specs.Geometry.{eepromSize}
 use Rattle.page.specs.Rolling.{rolledIn}
 use Rattle.record.specs.declared.Skeleton.{Skeleton}
 use Rattle.record.specs.declared.Skeleton.the-variants.{Silent, Fetch, Ack, NoAck}
-use Rattle.eeprom.specs.Chip.{chipSize, lastPlace, answered, inFrame, silentIn, placeOf}
+use Rattle.eeprom.specs.Chip.{answered, inFrame, silentIn, placeOf}
 use Rattle.eeprom.specs.Write.{nextInPage, putByte, counted}
 use Rattle.eeprom.specs.declared.EepromFrame.{EepromFrame}
 use Rattle.eeprom.specs.declared.EepromFrame.the-variants.{Idle, Void, Opened, Addressed, Half, Taking, Reading}
@@ -34,7 +35,7 @@ addressByte x barred b wired =
 -- ---- Write
 -- two address bytes, the top bit ignored
 abbrev pub addressOf : ℕ → ℕ → ℕ
-addressOf high low = (high * 256 + low) % chipSize
+addressOf high low = (high * 256 + low) % eepromSize
 
 abbrev pub highByte : Eeprom → ℕ → EepromStep
 highByte x b = answered (inFrame x (Half (b % 128))) Ack
@@ -64,7 +65,7 @@ fetchOf (At p) = Fetch p
 -- which then goes on, 7fff to 0000
 abbrev pub movedOn : EepromCounter → EepromCounter
 movedOn Lost = Lost
-movedOn (At p) = At (rolledIn lastPlace p)
+movedOn (At p) = At (rolledIn (eepromSize - 1) p)
 
 -- a 1 acknowledge bit voids the frame
 abbrev pub afterRead : Bool → EepromFrame

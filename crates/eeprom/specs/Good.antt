@@ -4,8 +4,10 @@ use mathlib.Core.Bool.{true, false}
 use mathlib.Core.Path.{_≡_}
 use mathlib.Core.List.{List}
 use lib.ListN.{length, getD}
-use Rattle.eeprom.specs.Chip.{pageSize, chipSize, placeOf}
-use Rattle.eeprom.specs.Write.{sentBy, isSent}
+use Rattle.page.specs.Geometry.{eepromPage, eepromSize}
+use Rattle.page.specs.Rolling.{sentPlace}
+use Rattle.eeprom.specs.Chip.{placeOf}
+use Rattle.eeprom.specs.Write.{sentBy}
 use Rattle.eeprom.specs.Side.{Side}
 use Rattle.eeprom.specs.declared.Sent.{Sent}
 use Rattle.eeprom.specs.declared.EepromFrame.{EepromFrame}
@@ -19,7 +21,7 @@ use Rattle.eeprom.specs.declared.Eeprom.{Eeprom}
 -- the counter is lost or a place of the chip
 abbrev pub CounterGood : EepromCounter → Type 0
 CounterGood Lost = Unit {0}
-CounterGood (At p) = p < chipSize
+CounterGood (At p) = p < eepromSize
 
 abbrev pub Known : EepromCounter → Type 0
 Known Lost = ⊥
@@ -32,7 +34,7 @@ FrameGood Void n = Unit {0}
 FrameGood (Opened barred) n = Unit {0}
 FrameGood Addressed n = Unit {0}
 FrameGood (Half high) n = high < 128
-FrameGood (Taking k) n = (k ≤ pageSize) × Known n
+FrameGood (Taking k) n = (k ≤ eepromPage) × Known n
 FrameGood Reading n = Unit {0}
 
 -- in a cycle: no write frame, no read frame
@@ -52,13 +54,13 @@ FrameIn (Write s) f n = Waits f
 
 -- the places of a cycle, one or more of one page, and the place p of the counter: one past the last, in the page's own rolling
 pub record SentGood (s : Sent) (p : ℕ) : Type 0 where
-  pub in-chip : s .page < chipSize / pageSize
-  pub in-page : s .first < pageSize
+  pub in-chip : s .page < eepromSize / eepromPage
+  pub in-page : s .first < eepromPage
   pub some : 1 ≤ s .count
-  pub no-more : s .count ≤ pageSize
-  pub all : pageSize ≤ s .count → s .first ≡ 0
-  pub here : p / pageSize ≡ s .page
-  pub past : s .count < pageSize → p % pageSize ≡ (s .first + s .count) % pageSize
+  pub no-more : s .count ≤ eepromPage
+  pub all : eepromPage ≤ s .count → s .first ≡ 0
+  pub here : p / eepromPage ≡ s .page
+  pub past : s .count < eepromPage → p % eepromPage ≡ (s .first + s .count) % eepromPage
 
 abbrev pub CycleIn : EepromCycle → EepromCounter → Type 0
 CycleIn None n = Unit {0}
@@ -80,15 +82,15 @@ sentIn None f n = sentBy (placeOf n) (countOf f)
 sentIn (Write s) f n = s
 
 -- a chip, by its parts: the page holds 0 where nothing was sent
-pub record Parts (f : EepromFrame) (c : EepromCycle) (n : EepromCounter) (p : List ℕ) : Type 0 where
+pub record Fields (f : EepromFrame) (c : EepromCycle) (n : EepromCounter) (p : List ℕ) : Type 0 where
   pub in-frame : FrameIn c f n
   pub in-cycle : CycleIn c n
   pub in-counter : CounterGood n
-  pub long : length p ≡ pageSize
-  pub empty : (q : ℕ) → q < pageSize → isSent (sentIn c f n) q ≡ false → getD p q 0 ≡ 0
+  pub long : length p ≡ eepromPage
+  pub empty : (q : ℕ) → q < eepromPage → sentPlace eepromPage (sentIn c f n .first) (sentIn c f n .count) q ≡ false → getD p q 0 ≡ 0
 
 abbrev pub ChipGood : Eeprom → Type 0
-ChipGood x = Parts (x .frame) (x .cycle) (x .counter) (x .page)
+ChipGood x = Fields (x .frame) (x .cycle) (x .counter) (x .page)
 
 -- no frame is open
 abbrev pub Shut : EepromFrame → Type 0

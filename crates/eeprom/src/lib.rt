@@ -47,12 +47,14 @@ pub enum EepromCounter {
     At(u32),
 }
 
+pub type EepromPage = [u8; page::EEPROM_PAGE as usize];
+
 // The page holds the bytes of a write that is being sent or whose cycle runs, and 0 elsewhere. So two chips in one state are one value.
 pub struct Eeprom {
     pub frame: EepromFrame,
     pub cycle: EepromCycle,
     pub counter: EepromCounter,
-    pub page: [u8; 64],
+    pub page: EepromPage,
 }
 
 pub struct EepromStep {
@@ -69,7 +71,7 @@ impl Eeprom {
             frame: EepromFrame::Idle,
             cycle: EepromCycle::None,
             counter: EepromCounter::Lost,
-            page: [0u8; 64],
+            page: [0; page::EEPROM_PAGE as usize],
         }
     }
 
@@ -249,7 +251,7 @@ impl Eeprom {
                 frame: frame,
                 cycle: EepromCycle::None,
                 counter: counter,
-                page: [0u8; 64],
+                page: [0; page::EEPROM_PAGE as usize],
             };
             chip.answer(Skeleton::Ends)
         } else {
@@ -303,7 +305,7 @@ impl Eeprom {
             frame: parts::voided(frame),
             cycle: EepromCycle::None,
             counter: EepromCounter::Lost,
-            page: [0u8; 64],
+            page: [0; page::EEPROM_PAGE as usize],
         }
     }
 
@@ -311,17 +313,10 @@ impl Eeprom {
     pub fn line(self, e: LineEvent, lines: Lines) -> Eeprom
         ensures { λ r. ⌜ r ≡ lineOf self e lines ⌝ }
     {
-        match e {
-            LineEvent::SupplyOn => self,
-            LineEvent::SupplyOff => {
-                if lines.supply {
-                    self.supply_off()
-                } else {
-                    self
-                }
-            }
-            LineEvent::LockOn => self,
-            LineEvent::LockOff => self,
+        if record::goes_off(lines, e) {
+            self.supply_off()
+        } else {
+            self
         }
     }
 }

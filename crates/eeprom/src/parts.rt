@@ -6,6 +6,7 @@ ghost use Rattle.eeprom.specs.Step.{voidedBy};
 use crate::EepromCounter;
 use crate::EepromCycle;
 use crate::EepromFrame;
+use crate::EepromPage;
 use record::Skeleton;
 
 pub(crate) fn running(cycle: EepromCycle) -> bool
@@ -18,11 +19,11 @@ pub(crate) fn running(cycle: EepromCycle) -> bool
 }
 
 // What is left of the page where the frame has no data.
-pub(crate) fn page_in(cycle: EepromCycle, bytes: [u8; 64]) -> [u8; 64]
+pub(crate) fn page_in(cycle: EepromCycle, bytes: EepromPage) -> EepromPage
     ensures { λ r. ⌜ r ≡ pageIn cycle bytes ⌝ }
 {
     match cycle {
-        EepromCycle::None => [0u8; 64],
+        EepromCycle::None => [0; page::EEPROM_PAGE as usize],
         EepromCycle::Write(_) => bytes,
     }
 }
@@ -71,13 +72,7 @@ pub(crate) fn moved_on(counter: EepromCounter) -> EepromCounter
 {
     match counter {
         EepromCounter::Lost => EepromCounter::Lost,
-        EepromCounter::At(p) => {
-            if p < 0x7fff {
-                EepromCounter::At(p + 1)
-            } else {
-                EepromCounter::At(0)
-            }
-        }
+        EepromCounter::At(p) => EepromCounter::At(page::rolled(p, page::EEPROM_SIZE - 1)),
     }
 }
 

@@ -1,18 +1,19 @@
 // The places that a write is for (document 01, 'EEPROM rules', Write).
 ghost use mathlib.Core.Path.{_≡_};
 ghost use Rattle.eeprom.specs.Write.{nextInPage, putByte, counted, sentBy};
+use crate::EepromPage;
 use crate::Sent;
 
 // The place after one, in the page's own rolling.
 pub(crate) fn next_in_page(place: u32) -> u32
     ensures { λ r. ⌜ r ≡ nextInPage place ⌝ }
 {
-    let low = page::rolled((place % page::EEPROM_PAGE) as u8, 63);
-    place / page::EEPROM_PAGE * page::EEPROM_PAGE + low as u32
+    place / page::EEPROM_PAGE * page::EEPROM_PAGE
+        + page::rolled(place % page::EEPROM_PAGE, page::EEPROM_PAGE - 1)
 }
 
 // A later byte for a place replaces the earlier.
-pub(crate) fn put_byte(place: u32, b: u8, bytes: [u8; 64]) -> [u8; 64]
+pub(crate) fn put_byte(place: u32, b: u8, bytes: EepromPage) -> EepromPage
     ensures { λ r. ⌜ r ≡ putByte place b bytes ⌝ }
 {
     let mut next = bytes;

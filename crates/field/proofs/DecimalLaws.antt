@@ -2,29 +2,23 @@
 use Prim.Native.Nat.{ℕ, suc, zero, _+_, _-_, _*_, _/_, _%_, _≤_, _<_}
 use native.Mathlib.Omega.{arith}
 use native.Mathlib.Numerals.{add-one}
-use native.Mathlib.Nat.{div-add-mod', mod-lt, add-assoc, add-sub-cancel-left, zero-add, add-zero, add-sub-of-le, pos-of-ne-zero}
+use native.Mathlib.Nat.{div-add-mod', add-assoc, add-sub-cancel-left, zero-add, add-zero, add-sub-of-le, pos-of-ne-zero}
 use mathlib.Core.Path.{_≡_, refl, sym, ap, subst, _∙_}
 use mathlib.Core.Logic.{_⊎_, inl, inr, ⊎-elim}
 use mathlib.Core.Bool.{Bool, true, false}
 use mathlib.Core.List.{List, [], _∷_, _++_, append-assoc, append-nil}
-use lib.Dec.{ltb, leb, eqb}
+use lib.Dec.{eqb}
 use lib.Arith.{digits-div, digits-mod}
 use lib.ListN.{length, drop, getD, length-append, drop-of-length-le}
 use lib.Seq.{drop-cons}
 use borrow.Author.Tests.{lt-ltb, le-ltb, eq-eqb, ne-eqb, eqb-true, eqb-false}
 use Rattle.law.specs.Choice.{pick, split, lt-or-le}
-use Rattle.field.specs.declared.Cursor.{Cursor}
-use Rattle.field.specs.declared.decimal.FieldEnd.{FieldEnd}
 use Rattle.field.specs.declared.decimal.Pushed.{Pushed}
 use Rattle.field.specs.declared.decimal.Pushed.the-variants.{Value, Bad}
 use Rattle.field.specs.declared.decimal.ReadDecimal.{ReadDecimal}
-use Rattle.field.specs.Decimal.{largest, endByte, digitOn, pushOf, digitsIn, decimal, decimalTo, ReadsDecimal}
-use Rattle.field.specs.Reads.{Stands, Reads}
-
-pub end-low : (e : FieldEnd) → endByte e < 48
-end-low FieldEnd.Tab = omega arith
-end-low FieldEnd.Newline = omega arith
-end-low FieldEnd.Point = omega arith
+use Rattle.field.specs.Decimal.{largest, digitOn, pushOf, digitsIn, decimal, decimalField, ReadsDecimal}
+use Rattle.field.specs.Ends.{tabByte, tab}
+use Rattle.field.specs.Reads.{Stands}
 
 eq-or-ne : (a b : ℕ) → (a ≡ b) ⊎ (a ≡ b → ⊥)
 eq-or-ne a b = split (eqb a b) (λ e. inl (eqb-true a b e)) (λ e. inr (eqb-false a b e))
@@ -102,93 +96,88 @@ push-on : (v d : ℕ) → 0 < v → d < 10 → v * 10 + d ≤ largest → pushOf
 push-on v d z h p = simp (ne-eqb v 0 (λ (e : v ≡ 0). omega arith)) (digit-on v d h p)
 
 -- ---- the loop
-module _ (stop : ℕ) where
-  unfoldable pub decimalFrom : Bool → ℕ → ℕ → List ℕ → ReadDecimal
-  decimalFrom first v at [] = ReadDecimal.Bad
-  decimalFrom first v at (b ∷ l) = elim (eqb b stop) [ true ↦ pick first ReadDecimal.Bad (ReadDecimal.Value v (record { at = at + 1 })) | false ↦ elim (pushOf v first b) [ Value w ↦ decimalFrom false w (at + 1) l | Bad ↦ ReadDecimal.Bad ] ]
+unfoldable pub decimalFrom : Bool → ℕ → ℕ → List ℕ → ReadDecimal
+decimalFrom first v at [] = ReadDecimal.Bad
+decimalFrom first v at (b ∷ l) = elim (eqb b tabByte) [ true ↦ pick first ReadDecimal.Bad (ReadDecimal.Value v (record { at = at + 1 })) | false ↦ elim (pushOf v first b) [ Value w ↦ decimalFrom false w (at + 1) l | Bad ↦ ReadDecimal.Bad ] ]
 
-  pub from-tab : (first : Bool) (v at b : ℕ) (l : List ℕ) → b ≡ stop → decimalFrom first v at (b ∷ l) ≡ pick first ReadDecimal.Bad (ReadDecimal.Value v (record { at = at + 1 }))
-  unfolding decimalFrom
-  from-tab first v at b l e = rw (eq-eqb b stop e, decimalFrom)
+pub from-tab : (first : Bool) (v at b : ℕ) (l : List ℕ) → b ≡ tabByte → decimalFrom first v at (b ∷ l) ≡ pick first ReadDecimal.Bad (ReadDecimal.Value v (record { at = at + 1 }))
+unfolding decimalFrom
+from-tab first v at b l e = rw (eq-eqb b tabByte e, decimalFrom)
 
-  pub from-push : (first : Bool) (v at b w : ℕ) (l : List ℕ) → (b ≡ stop → ⊥) → pushOf v first b ≡ Value w → decimalFrom first v at (b ∷ l) ≡ decimalFrom false w (at + 1) l
-  unfolding decimalFrom
-  from-push first v at b w l n e = rw (ne-eqb b stop n, e, decimalFrom)
+pub from-push : (first : Bool) (v at b w : ℕ) (l : List ℕ) → (b ≡ tabByte → ⊥) → pushOf v first b ≡ Value w → decimalFrom first v at (b ∷ l) ≡ decimalFrom false w (at + 1) l
+unfolding decimalFrom
+from-push first v at b w l n e = rw (ne-eqb b tabByte n, e, decimalFrom)
 
-  pub from-bad : (first : Bool) (v at b : ℕ) (l : List ℕ) → (b ≡ stop → ⊥) → pushOf v first b ≡ Bad → decimalFrom first v at (b ∷ l) ≡ ReadDecimal.Bad
-  unfolding decimalFrom
-  from-bad first v at b l n e = rw (ne-eqb b stop n, e, decimalFrom)
+pub from-bad : (first : Bool) (v at b : ℕ) (l : List ℕ) → (b ≡ tabByte → ⊥) → pushOf v first b ≡ Bad → decimalFrom first v at (b ∷ l) ≡ ReadDecimal.Bad
+unfolding decimalFrom
+from-bad first v at b l n e = rw (ne-eqb b tabByte n, e, decimalFrom)
 
-  -- a spelled number is read on, digit by digit
-  run : stop < 48 → (k n : ℕ) → n < k → n ≤ largest → (at : ℕ) (l : List ℕ) → decimalFrom true 0 at (digitsIn k n ++ l) ≡ decimalFrom false n (at + length (digitsIn k n)) l
-  run low zero n p q at l = absurd (omega arith)
-  run low (suc k) n p q at l =
-      ⊎-elim (λ (h : n < 10). rw (digits-small k n h) (from-push true 0 at (48 + n) n l (λ (e : 48 + n ≡ stop). omega arith) (digit-on 0 n h (omega arith) ∙ ap Value (zero-add n))))
-      (λ (h : 10 ≤ n).
-      let d : n / 10 * 10 + n % 10 ≡ n = div-add-mod' n 10 in
-      rw (digits-more k n h, append-assoc, run low k (n / 10) (omega arith) (omega arith) at ((48 + n % 10) ∷ l), length-append)
-      (from-push false (n / 10) (at + length (digitsIn k (n / 10))) (48 + n % 10) (n / 10 * 10 + n % 10) l (λ (e : 48 + n % 10 ≡ stop). omega arith) (push-on (n / 10) (n % 10) (omega arith) (omega arith) (omega arith))
-      ∙ rw (d, add-assoc)))
-      (lt-or-le n 10)
+-- a spelled number is read on, digit by digit
+run : (k n : ℕ) → n < k → n ≤ largest → (at : ℕ) (l : List ℕ) → decimalFrom true 0 at (digitsIn k n ++ l) ≡ decimalFrom false n (at + length (digitsIn k n)) l
+run zero n p q at l = absurd (omega arith)
+run (suc k) n p q at l =
+    ⊎-elim (λ (h : n < 10). rw (digits-small k n h) (from-push true 0 at (48 + n) n l (λ (e : 48 + n ≡ tabByte). omega arith) (digit-on 0 n h (omega arith) ∙ ap Value (zero-add n))))
+    (λ (h : 10 ≤ n).
+    let d : n / 10 * 10 + n % 10 ≡ n = div-add-mod' n 10 in
+    rw (digits-more k n h, append-assoc, run k (n / 10) (omega arith) (omega arith) at ((48 + n % 10) ∷ l), length-append)
+    (from-push false (n / 10) (at + length (digitsIn k (n / 10))) (48 + n % 10) (n / 10 * 10 + n % 10) l (λ (e : 48 + n % 10 ≡ tabByte). omega arith) (push-on (n / 10) (n % 10) (omega arith) (omega arith) (omega arith))
+    ∙ rw (d, add-assoc)))
+    (lt-or-le n 10)
 
-  -- what is found is spelled there
-  Found : Bool → ℕ → ℕ → List ℕ → Type 0
-  Found first v at l = (n : ℕ) × (n ≤ largest) × (w : List ℕ) × (rest : List ℕ) × (l ≡ w ++ stop ∷ rest) × (soFar first v ++ w ≡ decimal n) × (decimalFrom first v at l ≡ ReadDecimal.Value n (record { at = at + length w + 1 }))
+-- what is found is spelled there
+Found : Bool → ℕ → ℕ → List ℕ → Type 0
+Found first v at l = (n : ℕ) × (n ≤ largest) × (w : List ℕ) × (rest : List ℕ) × (l ≡ w ++ tabByte ∷ rest) × (soFar first v ++ w ≡ decimal n) × (decimalFrom first v at l ≡ ReadDecimal.Value n (record { at = at + length w + 1 }))
 
-  pub from-nil : (first : Bool) (v at : ℕ) → decimalFrom first v at [] ≡ ReadDecimal.Bad
-  unfolding decimalFrom
-  from-nil first v at = refl
+pub from-nil : (first : Bool) (v at : ℕ) → decimalFrom first v at [] ≡ ReadDecimal.Bad
+unfolding decimalFrom
+from-nil first v at = refl
 
-  sound : (l : List ℕ) (first : Bool) (v at : ℕ) → v ≤ largest → (decimalFrom first v at l ≡ ReadDecimal.Bad) ⊎ Found first v at l
-  unfolding Found soFar
-  sound [] first v at h = inl (from-nil first v at)
-  sound (b ∷ l) first v at h = ⊎-elim (tab first) (λ (n : b ≡ stop → ⊥). go n (pushOf v first b) refl (λ (u : ℕ). sound l false u (at + 1))) (eq-or-ne b stop)
-    where
-      tab : (f : Bool) → b ≡ stop → (decimalFrom f v at (b ∷ l) ≡ ReadDecimal.Bad) ⊎ Found f v at (b ∷ l)
-      tab true e = inl (from-tab true v at b l e)
-      tab false e = inr (v, h, [], l, rw e, append-nil (decimal v), from-tab false v at b l e ∙ rw add-zero)
+sound : (l : List ℕ) (first : Bool) (v at : ℕ) → v ≤ largest → (decimalFrom first v at l ≡ ReadDecimal.Bad) ⊎ Found first v at l
+unfolding Found soFar
+sound [] first v at h = inl (from-nil first v at)
+sound (b ∷ l) first v at h = ⊎-elim (ended first) (λ (n : b ≡ tabByte → ⊥). go n (pushOf v first b) refl (λ (u : ℕ). sound l false u (at + 1))) (eq-or-ne b tabByte)
+  where
+    ended : (f : Bool) → b ≡ tabByte → (decimalFrom f v at (b ∷ l) ≡ ReadDecimal.Bad) ⊎ Found f v at (b ∷ l)
+    ended true e = inl (from-tab true v at b l e)
+    ended false e = inr (v, h, [], l, rw e, append-nil (decimal v), from-tab false v at b l e ∙ rw add-zero)
 
-      go : (b ≡ stop → ⊥) → (p : Pushed) → pushOf v first b ≡ p → ((u : ℕ) → u ≤ largest → (decimalFrom false u (at + 1) l ≡ ReadDecimal.Bad) ⊎ Found false u (at + 1) l) → (decimalFrom first v at (b ∷ l) ≡ ReadDecimal.Bad) ⊎ Found first v at (b ∷ l)
-      go n Bad e ih = inl (from-bad first v at b l n e)
-      go n (Value u) e ih =
-          let s = push-says v b u first e in
-          let f = from-push first v at b u l n e in
-          ⊎-elim (λ (z : decimalFrom false u (at + 1) l ≡ ReadDecimal.Bad). inl (f ∙ z))
-          (λ (z : Found false u (at + 1) l).
-          inr (z .0, z .1, b ∷ z .2, z .3, ap (λ (k : List ℕ). b ∷ k) (z .4), sym (append-assoc (soFar first v) (b ∷ []) (z .2)) ∙ ap (λ (k : List ℕ). k ++ z .2) (s .1) ∙ z .5, f ∙ z .6 ∙ ap (λ (k : ℕ). ReadDecimal.Value (z .0) (record { at = k })) (omega arith)))
-          (ih u (s .0))
+    go : (b ≡ tabByte → ⊥) → (p : Pushed) → pushOf v first b ≡ p → ((u : ℕ) → u ≤ largest → (decimalFrom false u (at + 1) l ≡ ReadDecimal.Bad) ⊎ Found false u (at + 1) l) → (decimalFrom first v at (b ∷ l) ≡ ReadDecimal.Bad) ⊎ Found first v at (b ∷ l)
+    go n Bad e ih = inl (from-bad first v at b l n e)
+    go n (Value u) e ih =
+        let s = push-says v b u first e in
+        let f = from-push first v at b u l n e in
+        ⊎-elim (λ (z : decimalFrom false u (at + 1) l ≡ ReadDecimal.Bad). inl (f ∙ z))
+        (λ (z : Found false u (at + 1) l).
+        inr (z .0, z .1, b ∷ z .2, z .3, ap (λ (k : List ℕ). b ∷ k) (z .4), sym (append-assoc (soFar first v) (b ∷ []) (z .2)) ∙ ap (λ (k : List ℕ). k ++ z .2) (s .1) ∙ z .5, f ∙ z .6 ∙ ap (λ (k : ℕ). ReadDecimal.Value (z .0) (record { at = k })) (omega arith)))
+        (ih u (s .0))
 
-  -- the loop's answer is that of a reader of decimal fields
-  pub reads-decimal : stop < 48 → (text : List ℕ) (at : ℕ) → ReadsDecimal stop text at (decimalFrom true 0 at (drop at text))
-  unfolding decimalTo decimal Found soFar
-  reads-decimal low text at = record { found = finds; only = ⊎-elim inl (λ z. inr (stands z)) (sound (drop at text) true 0 at (omega arith)) }
-    where
-      place : (w : List ℕ) → at + length w + 1 ≡ at + length (w ++ (stop ∷ []))
-      place w = rw length-append (omega arith)
+-- the loop's answer is that of a reader of decimal fields
+pub reads-decimal : (text : List ℕ) (at : ℕ) → ReadsDecimal text at (decimalFrom true 0 at (drop at text))
+unfolding decimalField decimal Found soFar
+reads-decimal text at = record { found = finds; only = ⊎-elim inl (λ z. inr (stands z)) (sound (drop at text) true 0 at (omega arith)) }
+  where
+    place : (w : List ℕ) → at + length w + 1 ≡ at + length (w ++ tab)
+    place w = rw length-append (omega arith)
 
-      finds : (x : ℕ) → x ≤ largest → Stands text at (decimalTo stop x) → decimalFrom true 0 at (drop at text) ≡ ReadDecimal.Value x (record { at = at + length (decimalTo stop x) })
-      finds x h s = rw (s .is, append-assoc, run low (suc x) x (omega arith) h at (stop ∷ s .rest), from-tab false x (at + length (decimal x)) stop (s .rest) refl) (ap (λ (k : ℕ). ReadDecimal.Value x (record { at = k })) (place (decimal x)))
+    finds : (x : ℕ) → x ≤ largest → Stands text at (decimalField x) → decimalFrom true 0 at (drop at text) ≡ ReadDecimal.Value x (record { at = at + length (decimalField x) })
+    finds x h s = rw (s .is, append-assoc, run (suc x) x (omega arith) h at (tabByte ∷ s .rest), from-tab false x (at + length (decimal x)) tabByte (s .rest) refl) (ap (λ (k : ℕ). ReadDecimal.Value x (record { at = k })) (place (decimal x)))
 
-      stands : Found true 0 at (drop at text) → (x : ℕ) × (x ≤ largest) × Stands text at (decimalTo stop x) × (decimalFrom true 0 at (drop at text) ≡ ReadDecimal.Value x (record { at = at + length (decimalTo stop x) }))
-      stands z = (z .0, z .1, record { rest = z .3; is = z .4 ∙ ap (λ (k : List ℕ). k ++ stop ∷ z .3) (z .5) ∙ sym (append-assoc (decimal (z .0)) (stop ∷ []) (z .3)) }, z .6 ∙ ap (λ (k : ℕ). ReadDecimal.Value (z .0) (record { at = k })) (place (z .2) ∙ ap (λ (k : List ℕ). at + length (k ++ (stop ∷ []))) (z .5)))
+    stands : Found true 0 at (drop at text) → (x : ℕ) × (x ≤ largest) × Stands text at (decimalField x) × (decimalFrom true 0 at (drop at text) ≡ ReadDecimal.Value x (record { at = at + length (decimalField x) }))
+    stands z = (z .0, z .1, record { rest = z .3; is = z .4 ∙ ap (λ (k : List ℕ). k ++ tabByte ∷ z .3) (z .5) ∙ sym (append-assoc (decimal (z .0)) tab (z .3)) }, z .6 ∙ ap (λ (k : ℕ). ReadDecimal.Value (z .0) (record { at = k })) (place (z .2) ∙ ap (λ (k : List ℕ). at + length (k ++ tab)) (z .5)))
 
-  pub answers : stop < 48 → (text : List ℕ) (at : ℕ) (r : ReadDecimal) → decimalFrom true 0 at (drop at text) ≡ r → ReadsDecimal stop text at r
-  answers low text at r e = subst (λ (z : ReadDecimal). ReadsDecimal stop text at z) e (reads-decimal low text at)
+pub answers : (text : List ℕ) (at : ℕ) (r : ReadDecimal) → decimalFrom true 0 at (drop at text) ≡ r → ReadsDecimal text at r
+answers text at r e = subst (λ (z : ReadDecimal). ReadsDecimal text at z) e (reads-decimal text at)
 
-  -- ---- a turn of the loop, at a place within the text
-  module _ (text : List ℕ) (first : Bool) (v at : ℕ) (h : at < length text) where
-    pub at-tab : getD text at 0 ≡ stop → decimalFrom first v at (drop at text) ≡ pick first ReadDecimal.Bad (ReadDecimal.Value v (record { at = at + 1 }))
-    at-tab e = rw (drop-cons text at 0 h) (from-tab first v at (getD text at 0) (drop (suc at) text) e)
+-- ---- a turn of the loop, at a place within the text
+module _ (text : List ℕ) (first : Bool) (v at : ℕ) (h : at < length text) where
+  pub at-tab : getD text at 0 ≡ tabByte → decimalFrom first v at (drop at text) ≡ pick first ReadDecimal.Bad (ReadDecimal.Value v (record { at = at + 1 }))
+  at-tab e = rw (drop-cons text at 0 h) (from-tab first v at (getD text at 0) (drop (suc at) text) e)
 
-    pub at-push : (w : ℕ) → (getD text at 0 ≡ stop → ⊥) → pushOf v first (getD text at 0) ≡ Value w → decimalFrom first v at (drop at text) ≡ decimalFrom false w (at + 1) (drop (at + 1) text)
-    at-push w n e = rw (drop-cons text at 0 h, from-push first v at (getD text at 0) w (drop (suc at) text) n e, add-one)
+  pub at-push : (w : ℕ) → (getD text at 0 ≡ tabByte → ⊥) → pushOf v first (getD text at 0) ≡ Value w → decimalFrom first v at (drop at text) ≡ decimalFrom false w (at + 1) (drop (at + 1) text)
+  at-push w n e = rw (drop-cons text at 0 h, from-push first v at (getD text at 0) w (drop (suc at) text) n e, add-one)
 
-    pub at-bad : (getD text at 0 ≡ stop → ⊥) → pushOf v first (getD text at 0) ≡ Bad → decimalFrom first v at (drop at text) ≡ ReadDecimal.Bad
-    at-bad n e = rw (drop-cons text at 0 h) (from-bad first v at (getD text at 0) (drop (suc at) text) n e)
+  pub at-bad : (getD text at 0 ≡ tabByte → ⊥) → pushOf v first (getD text at 0) ≡ Bad → decimalFrom first v at (drop at text) ≡ ReadDecimal.Bad
+  at-bad n e = rw (drop-cons text at 0 h) (from-bad first v at (getD text at 0) (drop (suc at) text) n e)
 
-  pub at-end : (text : List ℕ) (first : Bool) (v at : ℕ) → length text ≤ at → decimalFrom first v at (drop at text) ≡ ReadDecimal.Bad
-  at-end text first v at h = rw (drop-of-length-le text h) (from-nil first v at)
-
--- the end byte asked for
-pub decimal-as : {stop : ℕ} (e : FieldEnd) {text : List ℕ} {at : ℕ} {r : ReadDecimal} → stop ≡ endByte e → ReadsDecimal stop text at r → ReadsDecimal (endByte e) text at r
-decimal-as e {text} {at} {r} q d = subst (λ (k : ℕ). ReadsDecimal k text at r) q d
+pub at-end : (text : List ℕ) (first : Bool) (v at : ℕ) → length text ≤ at → decimalFrom first v at (drop at text) ≡ ReadDecimal.Bad
+at-end text first v at h = rw (drop-of-length-le text h) (from-nil first v at)

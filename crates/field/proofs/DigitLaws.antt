@@ -3,10 +3,10 @@ use Prim.Native.Nat.{ℕ, zero, suc, _+_, _-_, _≤_, _<_}
 use native.Mathlib.Omega.{arith}
 use native.Mathlib.Nat.{add-zero}
 use mathlib.Core.Path.{_≡_, refl, sym, ap, _∙_}
-use mathlib.Core.List.{List, [], _∷_}
+use mathlib.Core.List.{List}
 use lib.ListN.{length, getD}
 use Rattle.field.specs.declared.digit.ReadDigit.{ReadDigit}
-use Rattle.field.specs.Reads.{Stands, Reads}
+use Rattle.field.specs.Reads.{Stands}
 use Rattle.field.specs.Digit.{digitField, DigitOk, ReadsDigit}
 use Rattle.field.proofs.Reading.{stands-getD, stands-length, stands-of, none, one}
 

@@ -1,11 +1,10 @@
 -- The hex field.
 use Prim.Native.Nat.{ℕ, suc, zero, _+_, _-_, _*_, _/_, _%_, _≤_, _<_}
 use native.Mathlib.Omega.{arith}
-use native.Mathlib.Nat.{add-zero, div-add-mod', add-sub-cancel-left, add-sub-of-le}
-use mathlib.Core.Path.{_≡_, refl, sym, ap, subst, _∙_}
-use mathlib.Core.Logic.{_⊎_, inl, inr, ⊎-elim}
-use mathlib.Core.List.{List, [], _∷_, _++_}
-use mathlib.Core.Bool.{Bool, true, false}
+use native.Mathlib.Nat.{add-zero, div-add-mod', add-sub-cancel-left}
+use mathlib.Core.Path.{_≡_, refl, sym, ap, _∙_}
+use mathlib.Core.Logic.{_⊎_, ⊎-elim}
+use mathlib.Core.List.{List}
 use lib.Dec.{ltb, leb}
 use lib.Arith.{digits-div, digits-mod}
 use lib.ListN.{length, getD}
@@ -13,9 +12,9 @@ use borrow.Author.Tests.{lt-ltb, le-ltb, le-leb, lt-leb, ltb-false, leb-true}
 use Rattle.field.specs.declared.hex.Nibble.{Nibble}
 use Rattle.field.specs.declared.hex.Nibble.the-variants.{Value, Bad}
 use Rattle.field.specs.declared.hex.ReadHex.{ReadHex}
-use Rattle.law.specs.Choice.{pick, pick-says, lt-or-le}
+use Rattle.law.specs.Choice.{pick-says, lt-or-le}
 use Rattle.field.specs.Hex.{hexDigit, hexField, nibbleOf, ReadsHex}
-use Rattle.field.specs.Reads.{Stands, Reads}
+use Rattle.field.specs.Reads.{Stands}
 use Rattle.field.proofs.Reading.{stands-getD, stands-length, stands-of, none, one}
 
 nibble-digit : (d : ℕ) → d < 16 → nibbleOf (hexDigit d) ≡ Value d

@@ -1,16 +1,16 @@
 -- Laws of putting bytes at the end of a spelling.
-use Prim.Native.Nat.{ℕ, suc, zero, _+_, _*_, _/_, _%_, _^_, _≤_, _<_}
+use Prim.Native.Nat.{ℕ, suc, zero, _+_, _/_, _%_, _^_, _≤_, _<_}
 use native.Mathlib.Omega.{arith}
 use native.Mathlib.Numerals.{add-one}
-use native.Mathlib.Nat.{add-zero, div-add-mod', mod-eq-of-lt, pow-suc}
+use native.Mathlib.Nat.{div-add-mod', mod-eq-of-lt, pow-suc}
 use mathlib.Core.Path.{_≡_, refl, sym, ap, ap₂, subst, _∙_}
 use mathlib.Core.Logic.{⊎-elim}
-use mathlib.Core.List.{List, [], _∷_, _++_, append-assoc, append-nil}
-use lib.ListN.{length, take, getD, set, length-append, length-set}
+use mathlib.Core.List.{List, [], _∷_, _++_, append-nil}
+use lib.ListN.{length, take, getD, length-append, length-set}
 use lib.Seq.{take-suc, take-suc-set, take-all, append-snoc}
 use lib.Dec.{leb}
 use borrow.Author.Tests.{lt-leb}
-use Rattle.law.specs.Choice.{pick, lt-or-le}
+use Rattle.law.specs.Choice.{lt-or-le}
 use Rattle.field.specs.declared.spelling.Spelling.{Spelling}
 use Rattle.field.specs.Decimal.{decimal, largest}
 use Rattle.field.specs.Hex.{hexDigit, hexField}

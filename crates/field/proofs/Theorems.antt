@@ -14,8 +14,8 @@ use Rattle.field.proofs.Reading.{determined}
 use Rattle.field.proofs.Answers.{tells-decimal, tells-hex, tells-word, tells-digit}
 
 module _ (text : List ℕ) (at : ℕ) where
-  pub decimal-determined : (stop : ℕ) (r s : ReadDecimal) → ReadsDecimal stop text at r → ReadsDecimal stop text at s → r ≡ s
-  decimal-determined stop = determined tells-decimal
+  pub decimal-determined : (r s : ReadDecimal) → ReadsDecimal text at r → ReadsDecimal text at s → r ≡ s
+  decimal-determined = determined tells-decimal
 
   pub hex-determined : (r s : ReadHex) → ReadsHex text at r → ReadsHex text at s → r ≡ s
   hex-determined = determined tells-hex

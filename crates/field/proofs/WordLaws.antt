@@ -5,7 +5,6 @@ use mathlib.Core.Path.{_≡_, refl, sym, ap}
 use mathlib.Core.List.{List, [], _∷_, _++_}
 use lib.ListN.{length, drop, getD}
 use Rattle.field.specs.declared.word.ReadWord.{ReadWord}
-use Rattle.field.specs.Reads.{Stands, Reads}
 use Rattle.field.specs.Word.{ReadsWord}
 use Rattle.field.proofs.Reading.{stands-getD, stands-length, stands-of, none, one}
 

@@ -4,20 +4,13 @@ use mathlib.Core.Bool.{Bool, true, false}
 use mathlib.Core.List.{List, [], _∷_, _++_}
 use lib.Dec.{ltb, eqb}
 use Rattle.law.specs.Choice.{pick}
-use Rattle.field.specs.declared.Cursor.{Cursor}
-use Rattle.field.specs.declared.decimal.FieldEnd.{FieldEnd}
 use Rattle.field.specs.declared.decimal.ReadDecimal.{ReadDecimal}
 use Rattle.field.specs.declared.decimal.Pushed.{Pushed}
+use Rattle.field.specs.Ends.{tab}
 use Rattle.field.specs.Reads.{Reads}
 
 abbrev pub largest : ℕ
 largest = 4294967295
-
--- tab, LF, point
-abbrev pub endByte : FieldEnd → ℕ
-endByte FieldEnd.Tab = 9
-endByte FieldEnd.Newline = 10
-endByte FieldEnd.Point = 46
 
 -- the digits of n, at most as many as the first number says
 unfoldable pub digitsIn : ℕ → ℕ → List ℕ
@@ -28,12 +21,12 @@ digitsIn (suc k) n = elim (ltb n 10) [ true ↦ (48 + n) ∷ [] | false ↦ digi
 unfoldable pub decimal : ℕ → List ℕ
 decimal n = digitsIn (suc n) n
 
--- the same with the byte that ends the field
-unfoldable pub decimalTo : ℕ → ℕ → List ℕ
-decimalTo stop n = decimal n ++ (stop ∷ [])
+-- the same with the tab that ends the field
+unfoldable pub decimalField : ℕ → List ℕ
+decimalField n = decimal n ++ tab
 
-abbrev pub ReadsDecimal : ℕ → List ℕ → ℕ → ReadDecimal → Type 0
-ReadsDecimal stop = Reads (decimalTo stop) (λ n. n ≤ largest) (λ n p. ReadDecimal.Value n (record { at = p })) ReadDecimal.Bad
+abbrev pub ReadsDecimal : List ℕ → ℕ → ReadDecimal → Type 0
+ReadsDecimal = Reads decimalField (λ n. n ≤ largest) (λ n p. ReadDecimal.Value n (record { at = p })) ReadDecimal.Bad
 
 -- the number v with the digit b after it
 abbrev pub digitOn : ℕ → ℕ → Pushed

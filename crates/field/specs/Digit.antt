@@ -1,7 +1,6 @@
 -- One digit in a range.
 use Prim.Native.Nat.{ℕ, _+_, _≤_}
 use mathlib.Core.List.{List, [], _∷_}
-use Rattle.field.specs.declared.Cursor.{Cursor}
 use Rattle.field.specs.declared.digit.ReadDigit.{ReadDigit}
 use Rattle.field.specs.Reads.{Reads}
 

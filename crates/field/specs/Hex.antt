@@ -3,7 +3,6 @@ use Prim.Native.Nat.{ℕ, _+_, _-_, _/_, _%_, _<_}
 use mathlib.Core.List.{List, [], _∷_}
 use lib.Dec.{ltb, leb}
 use Rattle.law.specs.Choice.{pick}
-use Rattle.field.specs.declared.Cursor.{Cursor}
 use Rattle.field.specs.declared.hex.ReadHex.{ReadHex}
 use Rattle.field.specs.declared.hex.Nibble.{Nibble}
 use Rattle.field.specs.Reads.{Reads}

@@ -1,4 +1,5 @@
 -- How a field is spelled, and what it is to read one and to write one.
+pub mod Ends
 pub mod Reads
 pub mod Decimal
 pub mod Hex

@@ -1,7 +1,6 @@
 -- A word that is written out.
 use Prim.Native.Nat.{ℕ}
 use mathlib.Core.List.{List}
-use Rattle.field.specs.declared.Cursor.{Cursor}
 use Rattle.field.specs.declared.word.ReadWord.{ReadWord}
 use Rattle.field.specs.Reads.{Reads}
 

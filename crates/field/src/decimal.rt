@@ -1,15 +1,8 @@
-// A decimal from 0 to 4,294,967,295 with no leading zero, and the byte that ends it.
+// A decimal from 0 to 4,294,967,295 with no leading zero, and the tab that ends it.
 ghost use mathlib.Core.Path.{_≡_};
-ghost use Prim.Native.Nat.{_≤_, _<_};
-ghost use Rattle.field.specs.Decimal.{endByte, digitOn, pushOf, ReadsDecimal, largest};
+ghost use Prim.Native.Nat.{_≤_};
+ghost use Rattle.field.specs.Decimal.{digitOn, pushOf, ReadsDecimal, largest};
 use crate::Cursor;
-
-// What may end a decimal.
-pub enum FieldEnd {
-    Tab,
-    Newline,
-    Point,
-}
 
 pub enum ReadDecimal {
     Value(u32, Cursor),
@@ -19,16 +12,6 @@ pub enum ReadDecimal {
 pub enum Pushed {
     Value(u64),
     Bad,
-}
-
-fn end_byte(end: FieldEnd) -> u8
-    ensures { λ r. ⌜ r ≡ endByte end ⌝ }
-{
-    match end {
-        FieldEnd::Tab => 9,
-        FieldEnd::Newline => 10,
-        FieldEnd::Point => 46,
-    }
 }
 
 // The number with one more digit, if the byte is a digit and the number stays in range.
@@ -63,17 +46,16 @@ fn push(value: u64, first: bool, byte: u8) -> Pushed
     add_digit(value, byte)
 }
 
-// The end byte is below the digits.
-fn read_until(text: &[u8], c: Cursor, stop: u8) -> ReadDecimal
-    requires { ⌜ stop < 48 ⌝ }
-    ensures { λ r. ⌜ ReadsDecimal stop (now (text .entry)) (c .at) r ⌝ }
+// The decimal at a place, up to its tab.
+pub fn read_decimal(text: &[u8], c: Cursor) -> ReadDecimal
+    ensures { λ r. ⌜ ReadsDecimal (now (text .entry)) (c .at) r ⌝ }
 {
     let mut at = c.at;
     let mut value: u64 = 0;
     let mut first = true;
     while at < text.len() {
         let byte = text[at];
-        if byte == stop {
+        if byte == b'\t' {
             if first {
                 return ReadDecimal::Bad;
             }
@@ -87,11 +69,4 @@ fn read_until(text: &[u8], c: Cursor, stop: u8) -> ReadDecimal
         at += 1;
     }
     ReadDecimal::Bad
-}
-
-// The decimal at a place, ended by the byte asked for.
-pub fn read_decimal(text: &[u8], c: Cursor, end: FieldEnd) -> ReadDecimal
-    ensures { λ r. ⌜ ReadsDecimal (endByte end) (now (text .entry)) (c .at) r ⌝ }
-{
-    read_until(text, c, end_byte(end))
 }

@@ -6,13 +6,13 @@ mod hex;
 mod spelling;
 mod word;
 
-pub use decimal::FieldEnd;
 pub use decimal::ReadDecimal;
 pub use decimal::read_decimal;
 pub use digit::ReadDigit;
 pub use digit::read_digit;
 pub use hex::ReadHex;
 pub use hex::read_hex;
+pub use spelling::ROOM;
 pub use spelling::Spelling;
 pub use spelling::no_bytes;
 pub use spelling::put_decimal;

@@ -1,13 +1,15 @@
-// A line that is put together, field after field, before it is written out. What does not fit into 32 bytes is left out; no line is that long.
+// A line that is put together, field after field, before it is written out. What does not fit into the room is left out; no line is that long.
 ghost use mathlib.Core.Path.{_≡_};
 ghost use Rattle.field.specs.Decimal.{decimal};
 ghost use Prim.Native.Nat.{_%_};
 ghost use Rattle.field.specs.Hex.{hexDigit, hexField};
 ghost use Rattle.field.specs.Spelling.{noBytes, putByte, putAll};
 
+pub const ROOM: usize = 32;
+
 // The first len of the bytes are the line so far.
 pub struct Spelling {
-    pub bytes: [u8; 32],
+    pub bytes: [u8; ROOM],
     pub len: usize,
 }
 
@@ -15,7 +17,7 @@ pub fn no_bytes() -> Spelling
     ensures { λ r. ⌜ r ≡ noBytes ⌝ }
 {
     Spelling {
-        bytes: [0; 32],
+        bytes: [0; ROOM],
         len: 0,
     }
 }
@@ -24,7 +26,7 @@ fn put(s: Spelling, byte: u8) -> Spelling
     ensures { λ r. ⌜ r ≡ putByte s byte ⌝ }
 {
     let at = s.len;
-    if 32 <= at {
+    if ROOM <= at {
         return s;
     }
     let mut next = s;

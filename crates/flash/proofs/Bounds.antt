@@ -1,6 +1,6 @@
 -- The flash's side is good at the start, and every record of either channel keeps it so.
 -- Assumes nothing.
-use Prim.Native.Nat.{ℕ, _/_, _%_, _<_, _≤_}
+use Prim.Native.Nat.{ℕ, _-_, _/_, _%_, _<_, _≤_}
 use native.Mathlib.Omega.{arith}
 use mathlib.Core.Bool.{Bool, true, false}
 use mathlib.Core.Path.{_≡_, refl, sym, ap, subst, _∙_}
@@ -13,13 +13,15 @@ use Rattle.record.specs.declared.FlashEvent.{FlashEvent}
 use Rattle.record.specs.declared.FlashEvent.the-variants as event
 use Rattle.record.specs.declared.LineEvent.{LineEvent}
 use Rattle.record.specs.declared.LineEvent.the-variants.{SupplyOn, SupplyOff, LockOn, LockOff}
-use Rattle.page.specs.Geometry.{flashSize}
+use Rattle.page.specs.Geometry.{flashPage, flashSectors, flashSize}
+use Rattle.page.specs.Laws.{rolled-small}
+use Rattle.record.specs.Status.{StatusOk}
 use Rattle.flash.specs.Code.{decodeOf, sectorOf, sectorLocked, wpen, keptBits, withEnable}
 use Rattle.flash.specs.Frame.{factAt, served, opCodeSent, openedBy, countedOn, rolledOn, movedOn, withByte, nextSent, pageAfter, voidedBy, lockedFact, lockedFrame}
 use Rattle.flash.specs.Cycle.{runningOf, blank, pageIn, mayStart, lockBars, startsIf, setsIf, knownEffect, endStatus, offStatus}
 use Rattle.flash.specs.Step.{byteIn, closedBy, effectIn, poweredOf, darkOf, supplyOffOf, lockOnOf}
 use Rattle.flash.specs.Side.{Side, sideStart, sideBus, sideLine}
-use Rattle.flash.specs.Good.{SentOk, FrameOk, StatusBits, StatusOk, CycleOk, WaitsOp, Waits, IsKnown, InCycle, isProgram, sendsPage, writesPage, BlankUnless, Shut, factOf, FactOk, Parts, Good}
+use Rattle.flash.specs.Good.{SentOk, FrameOk, StatusBits, FlashStatusOk, CycleOk, WaitsOp, Waits, IsKnown, InCycle, isProgram, sendsPage, writesPage, BlankUnless, Shut, factOf, FactOk, Fields, Good}
 use Rattle.flash.specs.declared.Op.{Op}
 use Rattle.flash.specs.declared.Op.the-variants.{WriteEnable, WriteDisable, ReadStatus, WriteStatus, Read, Program, SectorErase, ChipErase, Identify}
 use Rattle.flash.specs.declared.Decoded.{Decoded}
@@ -39,10 +41,10 @@ use Rattle.flash.specs.declared.Effect.the-variants.{Nothing, Status, St
 
 -- ---- numbers
 counted-ok : (p : ℕ) → p < flashSize → countedOn p < flashSize
-counted-ok p h = split (ltb p 0x1ffff) (λ t. simp (t) (omega (arith, ltb-true p 0x1ffff t))) (λ t. simp (t) (omega arith))
+counted-ok p h = let l = rolled-small (flashSize - 1) p in omega arith
 
 rolled-ok : (p : ℕ) → p < flashSize → rolledOn p < flashSize
-rolled-ok p h = split (ltb (p % 256) 255) (λ t. simp (t) (omega (arith, ltb-true (p % 256) 255 t))) (λ t. simp (t) (omega arith))
+rolled-ok p h = let l = rolled-small (flashPage - 1) (p % flashPage) in omega arith
 
 moved-ok : (op : Op) (p : ℕ) → p < flashSize → movedOn op p < flashSize
 moved-ok WriteEnable p h = h
@@ -76,23 +78,21 @@ kept-kept s = omega arith
 pub kept-enable : (s : ℕ) → keptBits (withEnable s) ≡ keptBits s
 kept-enable s = omega arith
 
-kept-byte : (s : ℕ) → s < 256 → keptBits s < 256
-kept-byte s h = omega arith
-
-low-byte : (p : ℕ) → p % 256 < 256
-low-byte p = omega arith
-
-page-ok : (p : ℕ) → p < flashSize → p / 256 < 512
+page-ok : (p : ℕ) → p < flashSize → p / flashPage < flashSize / flashPage
 page-ok p h = omega arith
 
-pub sector-ok : (p : ℕ) → (1 ≤ sectorOf p) × (sectorOf p ≤ 4)
+pub sector-ok : (p : ℕ) → (1 ≤ sectorOf p) × (sectorOf p ≤ flashSectors)
 sector-ok p = (omega arith, omega arith)
 
-bits-of : (b : ℕ) → keptBits b ≡ b → b < 256 → StatusBits b
-bits-of b e h = subst StatusBits e (kept-bits b h)
+-- the bits of a WRSR
+bits-of : (b : ℕ) → StatusOk b → StatusBits b
+bits-of b h = record { byte = h .0; middle = h .2; low = omega (arith, h .1) }
+
+pub kept-all : (b : ℕ) → StatusOk b → keptBits b ≡ b
+kept-all b h = omega (arith, h .0, h .1, h .2)
 
 -- ---- parts of a state
-long-in : (c : FlashCycle) (p : List ℕ) → length p ≡ 256 → length (pageIn c p) ≡ 256
+long-in : (c : FlashCycle) (p : List ℕ) → length p ≡ flashPage → length (pageIn c p) ≡ flashPage
 long-in cycle.None p h = refl
 long-in (cycle.Program n) p h = h
 long-in (cycle.SectorErase n) p h = refl
@@ -129,9 +129,9 @@ in-cycle-as cycle.ChipErase f h = f h
 in-cycle-as (cycle.WriteStatus bits) f h = f h
 
 -- a chip whose frame has no data: nothing is asked of its page
-pub bare-good : (fr : FlashFrame) (c : FlashCycle) (st : FlashStatus) (p : List ℕ) (supply lock : Bool) → FrameOk fr → CycleOk c → StatusOk st → length p ≡ 256
+pub bare-good : (fr : FlashFrame) (c : FlashCycle) (st : FlashStatus) (p : List ℕ) (supply lock : Bool) → FrameOk fr → CycleOk c → FlashStatusOk st → length p ≡ flashPage
     → InCycle c (Waits fr) → InCycle c (IsKnown st) → FactOk (factOf fr) st lock → (supply ≡ false → (c ≡ cycle.None) × Shut fr)
-    → Parts fr c st (pageIn c p) supply lock
+    → Fields fr c st (pageIn c p) supply lock
 bare-good fr c st p supply lock f d s l w k x o = record {
   in-frame = f;
   in-cycle = d;
@@ -211,13 +211,13 @@ opens-idle : (d : Decoded) (fact : LockFact) → OpensIdle fact (openedBy false 
 opens-idle (Is op) fact = idle-opens op fact (served false op)
 opens-idle Unknown fact = record { ok = tt; said = λ st lock h. tt }
 
-long-after : (op : Op) (s : Sent) (si : ℕ) (p : List ℕ) → length p ≡ 256 → length (pageAfter op s si p) ≡ 256
+long-after : (op : Op) (s : Sent) (si : ℕ) (p : List ℕ) → length p ≡ flashPage → length (pageAfter op s si p) ≡ flashPage
 long-after WriteEnable s si p h = h
 long-after WriteDisable s si p h = h
 long-after ReadStatus s si p h = h
 long-after WriteStatus s si p h = h
 long-after Read s si p h = h
-long-after Program s si p h = split (ltb (s .count) 4) (λ t. simp (t) h) (λ t. simp (t) (length-set p (s .place % 256) si ∙ h))
+long-after Program s si p h = split (ltb (s .count) 4) (λ t. simp (t) h) (λ t. simp (t) (length-set p (s .place % flashPage) si ∙ h))
 long-after SectorErase s si p h = h
 long-after ChipErase s si p h = h
 long-after Identify s si p h = h
@@ -234,10 +234,10 @@ blank-after ChipErase t s si p h = h
 blank-after Identify t s si p h = h
 
 abbrev After : Flash → Bool → Bool → Type 0
-After f supply lock = Parts (f .frame) (f .cycle) (f .status) (f .page) supply lock
+After f supply lock = Fields (f .frame) (f .cycle) (f .status) (f .page) supply lock
 
-first-good : (c : FlashCycle) (fact : LockFact) (st : FlashStatus) (p : List ℕ) (si : ℕ) (lock : Bool) → Parts (Selected fact) c st p true lock
-    → Parts (openedBy (runningOf c) (decodeOf si) fact) c st (pageIn c p) true lock
+first-good : (c : FlashCycle) (fact : LockFact) (st : FlashStatus) (p : List ℕ) (si : ℕ) (lock : Bool) → Fields (Selected fact) c st p true lock
+    → Fields (openedBy (runningOf c) (decodeOf si) fact) c st (pageIn c p) true lock
 first-good cycle.None fact st p si lock h =
     let o = opens-idle (decodeOf si) fact in
     bare-good (openedBy false (decodeOf si) fact) cycle.None st p true lock (o .ok) tt (h .in-status) (h .whole) tt tt (o .said st lock (h .in-fact)) lit
@@ -258,7 +258,7 @@ first-good (cycle.WriteStatus bits) fact st p si lock h =
     bare-good (openedBy true (decodeOf si) fact) (cycle.WriteStatus bits) st p true lock (o .ok) (h .in-cycle) (h .in-status) (h .whole) (o .waits (h .waits)) (h .known)
     (o .said st lock (h .in-fact)) lit
 
-byte-good : (fr : FlashFrame) (c : FlashCycle) (st : FlashStatus) (p : List ℕ) (si w : ℕ) (lock : Bool) → Parts fr c st p true lock
+byte-good : (fr : FlashFrame) (c : FlashCycle) (st : FlashStatus) (p : List ℕ) (si w : ℕ) (lock : Bool) → Fields fr c st p true lock
     → After (byteIn fr (record { frame = fr; cycle = c; status = st; page = p }) si w .chip) true lock
 byte-good Idle c st p si w lock h = h
 byte-good Void c st p si w lock h = h
@@ -290,7 +290,7 @@ set-ok true s n h = h
 set-ok false s n h = tt
 
 wrsr-ok : (p : ℕ) → CycleOk (cycle.WriteStatus (keptBits (p % 256)))
-wrsr-ok p = (kept-kept (p % 256), kept-byte (p % 256) (low-byte p))
+wrsr-ok p = (omega arith, omega arith, omega arith)
 
 known-ok : (op : Op) (b : Sent) (fact : LockFact) (s : ℕ) → SentOk b → s < 256 → EffectOk (Known s) (knownEffect op b fact s)
 known-ok WriteEnable b fact s h l = set-ok (eqb (b .count) 1) s (withEnable s) (enable-bits s l)
@@ -300,13 +300,13 @@ known-ok WriteStatus b fact s h l =
     start-ok (mayStart (eqb (b .count) 2) s (lockBars s fact)) s (cycle.WriteStatus (keptBits (b .place % 256))) (wrsr-ok (b .place))
 known-ok Read b fact s h l = tt
 known-ok Program b fact s h l =
-    start-ok (mayStart (leb 5 (b .count)) s (sectorLocked s (sectorOf (b .place)))) s (cycle.Program (b .place / 256)) (page-ok (b .place) (h .inside))
+    start-ok (mayStart (leb 5 (b .count)) s (sectorLocked s (sectorOf (b .place)))) s (cycle.Program (b .place / flashPage)) (page-ok (b .place) (h .inside))
 known-ok SectorErase b fact s h l =
     start-ok (mayStart (eqb (b .count) 4) s (sectorLocked s (sectorOf (b .place)))) s (cycle.SectorErase (sectorOf (b .place))) (sector-ok (b .place))
 known-ok ChipErase b fact s h l = start-ok (mayStart (eqb (b .count) 1) s (sectorLocked s 1)) s cycle.ChipErase tt
 known-ok Identify b fact s h l = tt
 
-effect-ok : (fr : FlashFrame) (st : FlashStatus) → FrameOk fr → StatusOk st → EffectOk st (effectIn fr st)
+effect-ok : (fr : FlashFrame) (st : FlashStatus) → FrameOk fr → FlashStatusOk st → EffectOk st (effectIn fr st)
 effect-ok Idle st h k = tt
 effect-ok Void st h k = tt
 effect-ok (Selected fact) st h k = tt
@@ -331,20 +331,20 @@ no-fact (Command op b fact) h = h .1
 absent-ok : (fact : LockFact) (st : FlashStatus) (lock : Bool) → fact ≡ Absent → FactOk fact st lock
 absent-ok fact st lock e = subst (λ (x : LockFact). FactOk x st lock) (sym e) tt
 
-end-ok : (c : FlashCycle) (st : FlashStatus) → CycleOk c → StatusOk st → StatusOk (endStatus c st)
+end-ok : (c : FlashCycle) (st : FlashStatus) → CycleOk c → FlashStatusOk st → FlashStatusOk (endStatus c st)
 end-ok c Lost d h = tt
 end-ok cycle.None (Known s) d h = h
 end-ok (cycle.Program n) (Known s) d h = kept-bits s (h .byte)
 end-ok (cycle.SectorErase n) (Known s) d h = kept-bits s (h .byte)
 end-ok cycle.ChipErase (Known s) d h = kept-bits s (h .byte)
-end-ok (cycle.WriteStatus bits) (Known s) d h = bits-of bits (d .0) (d .1)
+end-ok (cycle.WriteStatus bits) (Known s) d h = bits-of bits d
 
-after-end : (c : FlashCycle) (fr : FlashFrame) (st : FlashStatus) (p : List ℕ) (lock : Bool) → Waits fr → Parts fr c st p true lock → Parts fr cycle.None (endStatus c st) blank true lock
+after-end : (c : FlashCycle) (fr : FlashFrame) (st : FlashStatus) (p : List ℕ) (lock : Bool) → Waits fr → Fields fr c st p true lock → Fields fr cycle.None (endStatus c st) blank true lock
 after-end c fr st p lock w h =
     bare-good fr cycle.None (endStatus c st) p true lock (h .in-frame) tt (end-ok c st (h .in-cycle) (h .in-status)) (h .whole) tt tt
     (absent-ok (factOf fr) (endStatus c st) lock (no-fact fr w)) lit
 
-end-good : (c : FlashCycle) (fr : FlashFrame) (st : FlashStatus) (p : List ℕ) (w : ℕ) (lock : Bool) → Parts fr c st p true lock
+end-good : (c : FlashCycle) (fr : FlashFrame) (st : FlashStatus) (p : List ℕ) (w : ℕ) (lock : Bool) → Fields fr c st p true lock
     → After (poweredOf (record { frame = fr; cycle = c; status = st; page = p }) event.End lock w .chip) true lock
 end-good cycle.None fr st p w lock h = h
 end-good (cycle.Program n) fr st p w lock h = after-end (cycle.Program n) fr st p lock (h .waits) h
@@ -365,7 +365,7 @@ powered-good f event.Deselect w lock h =
 powered-good f event.End w lock h = end-good (f .cycle) (f .frame) (f .status) (f .page) w lock h
 
 shut-good : (f : Flash) (fr : FlashFrame) (lock : Bool) → FrameOk fr → Waits fr → Shut fr → factOf fr ≡ Absent → After f false lock
-    → Parts fr (f .cycle) (f .status) (pageIn (f .cycle) (f .page)) false lock
+    → Fields fr (f .cycle) (f .status) (pageIn (f .cycle) (f .page)) false lock
 shut-good f fr lock o w s x h =
     bare-good fr (f .cycle) (f .status) (f .page) false lock o (h .in-cycle) (h .in-status) (h .whole) (in-cycle-of (f .cycle) w) (h .known)
     (absent-ok (factOf fr) (f .status) lock x) (λ e. (h .dark refl .0, s))
@@ -400,7 +400,7 @@ void-fact Void = refl
 void-fact (Selected fact) = refl
 void-fact (Command op b fact) = refl
 
-off-ok : (c : FlashCycle) (st : FlashStatus) → StatusOk st → StatusOk (offStatus c st)
+off-ok : (c : FlashCycle) (st : FlashStatus) → FlashStatusOk st → FlashStatusOk (offStatus c st)
 off-ok c Lost h = tt
 off-ok cycle.None (Known s) h = kept-bits s (h .byte)
 off-ok (cycle.Program n) (Known s) h = kept-bits s (h .byte)

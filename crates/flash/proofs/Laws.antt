@@ -10,18 +10,17 @@ use mathlib.Core.Logic.{_⊎_, inl, inr}
 use lib.Dec.{ltb, leb, eqb}
 use Rattle.law.specs.Choice.{pick, of-both, true-not-false}
 use Rattle.tied.specs.Control.{Cycle, idle, runs, Kind, starts, ends, fetches, plain, Lawful}
+use Rattle.record.specs.LineRules.{goesOff, lockComesOn}
 use Rattle.record.specs.Told.{skeletonKind, Telling}
 use Rattle.record.specs.declared.FlashEvent.{FlashEvent}
 use Rattle.record.specs.declared.FlashEvent.the-variants as event
-use Rattle.record.specs.declared.LineEvent.{LineEvent}
-use Rattle.record.specs.declared.LineEvent.the-variants.{SupplyOn, SupplyOff, LockOn, LockOff}
 use Rattle.record.specs.declared.Skeleton.{Skeleton}
 use Rattle.record.specs.declared.Skeleton.the-variants.{Silent, Given, Fetch, Starts, Ends, NoCycle}
 use Rattle.page.specs.Geometry.{flashSector}
 use Rattle.flash.specs.Code.{decodeOf, sectorOf, lockedBy, sectorLocked, keptBits, withEnable}
 use Rattle.flash.specs.Frame.{served, opCodeSent, openedBy, nextSent, fetchOf, identityOf, statusReply, replyTo, pageAfter, voidedBy, lockedFrame}
 use Rattle.flash.specs.Cycle.{runningOf, blank, pageIn, mayStart, lockBars, startsIf, setsIf, knownEffect, effectOf, endStatus, offStatus}
-use Rattle.flash.specs.Step.{bare, byteIn, furtherOf, closedBy, effectIn, endOf, poweredOf, darkOf, lineOf}
+use Rattle.flash.specs.Step.{bare, byteIn, furtherOf, closedBy, effectIn, endOf, poweredOf, darkOf, supplyOffOf, lockOnOf}
 use Rattle.flash.specs.Side.{Side, sideBus, sideSays}
 use Rattle.flash.specs.Good.{WaitsOp, Waits, InCycle, isProgram, Shut, CycleOk, Good}
 use Rattle.flash.specs.Told.{Running, programs, erases, erasesAll, setsStatus, bitsOf, runsIn, runsOf, ToldFrame, closed, opened, command, Told, toldAs, toldByte, toldPut, laterOf, toldBits, toldLater, told, startsOf, TracksFrame, TracksStatus, TracksCycle, Tracks, hintBy, hintIn, hintOf, flashControl}
@@ -41,7 +40,7 @@ use Rattle.flash.specs.declared.Flash.{Flash}
 use Rattle.flash.specs.declared.FlashStep.{FlashStep}
 use Rattle.flash.specs.declared.Effect.{Effect}
 use Rattle.flash.specs.declared.Effect.the-variants.{Nothing, Status, Start}
-use Rattle.flash.proofs.Bounds.{kept-kept, kept-enable, void-shut, good-bus, good-line}
+use Rattle.flash.proofs.Bounds.{kept-kept, kept-enable, kept-all, void-shut, good-bus, good-line}
 
 -- ---- replies to bytes start and end nothing
 abbrev Quiet : Kind → Type 0
@@ -205,14 +204,11 @@ says watched s e g =
     (powered-says (s .chip) e (s .lines .lock) watched (g .waits)) (dark-says (s .chip) e)
 
 -- ---- channel L goes on with the cycle, or stops it
-line-says : (x : Flash) (e : LineEvent) (supply lock : Bool) →
-    (runsOf (lineOf x e (record { supply = supply; lock = lock })) ≡ runsOf x) ⊎ (runsOf (lineOf x e (record { supply = supply; lock = lock })) ≡ idle)
-line-says x SupplyOn supply lock = inl refl
-line-says x SupplyOff true lock = inr refl
-line-says x SupplyOff false lock = inl refl
-line-says x LockOn supply true = inl refl
-line-says x LockOn supply false = inl refl
-line-says x LockOff supply lock = inl refl
+line-says : (x : Flash) (off on : Bool) →
+    (runsOf (pick off (supplyOffOf x) (pick on (lockOnOf x) x)) ≡ runsOf x) ⊎ (runsOf (pick off (supplyOffOf x) (pick on (lockOnOf x) x)) ≡ idle)
+line-says x true on = inr refl
+line-says x false true = inl refl
+line-says x false false = inl refl
 
 -- ---- what is told is kept up
 abbrev TracksStep : Told → FlashEvent → FlashStep → Type 0
@@ -368,7 +364,7 @@ end-status cycle.None (Known s) bits later d k l r = absurd (true-not-false (sym
 end-status (cycle.Program n) (Known s) bits later d k l r = kept-kept s ∙ k ∙ sym l
 end-status (cycle.SectorErase n) (Known s) bits later d k l r = kept-kept s ∙ k ∙ sym l
 end-status cycle.ChipErase (Known s) bits later d k l r = kept-kept s ∙ k ∙ sym l
-end-status (cycle.WriteStatus b) (Known s) bits later d k l r = d .0 ∙ sym l
+end-status (cycle.WriteStatus b) (Known s) bits later d k l r = kept-all b d ∙ sym l
 
 waiting-page : (op : Op) (p q : List ℕ) → WaitsOp op → isProgram op ≡ true → p ≡ q
 waiting-page WriteEnable p q h t = absurd h
@@ -456,21 +452,18 @@ lock-tracks Void p q g h = tt
 lock-tracks (Selected fact) p q g h = h
 lock-tracks (Command op s fact) p q g h = h
 
-line-tracks : (x : Flash) (e : LineEvent) (supply lock : Bool) (f : Told) → Tracks x f → Tracks (lineOf x e (record { supply = supply; lock = lock })) f
-line-tracks x SupplyOn supply lock f h = h
-line-tracks x SupplyOff true lock f h = record {
+line-tracks : (x : Flash) (off on : Bool) (f : Told) → Tracks x f → Tracks (pick off (supplyOffOf x) (pick on (lockOnOf x) x)) f
+line-tracks x true on f h = record {
   in-frame = shut-tracks (voidedBy (x .frame)) blank (f .page) (f .frame) (void-shut (x .frame));
   in-status = off-status (x .cycle) (x .status) (f .bits) (h .in-status);
   in-cycle = tt;
 }
-line-tracks x SupplyOff false lock f h = h
-line-tracks x LockOn supply true f h = h
-line-tracks x LockOn supply false f h = record {
+line-tracks x false true f h = record {
   in-frame = lock-tracks (x .frame) (x .page) (f .page) (f .frame) (h .in-frame);
   in-status = h .in-status;
   in-cycle = h .in-cycle;
 }
-line-tracks x LockOff supply lock f h = h
+line-tracks x false false f h = h
 
 -- ---- a chip tells of itself
 toldOf : FlashFrame → ToldFrame
@@ -656,9 +649,9 @@ flash-lawful watched = record {
   fetch-idle = λ s e g h. says-as watched s e fetches g h .0;
   fetch-keeps = λ s e g h. says-as watched s e fetches g h .1;
   plain-keeps = λ s e g h. says-as watched s e plain g h;
-  line-keeps = λ s e g. line-says (s .chip) e (s .lines .supply) (s .lines .lock);
+  line-keeps = λ s e g. line-says (s .chip) (goesOff (s .lines) e) (lockComesOn (s .lines) e);
   tracks-bus = tracks-bus watched;
-  tracks-line = λ s f e g h. line-tracks (s .chip) e (s .lines .supply) (s .lines .lock) f h;
+  tracks-line = λ s f e g h. line-tracks (s .chip) (goesOff (s .lines) e) (lockComesOn (s .lines) e) f h;
   tells = λ s f e g h. tells watched s f e h;
 }
 

@@ -1,4 +1,4 @@
 -- Theorems over the flash's rules.
 pub mod Bounds
-pub mod Cases
+pub mod Worked
 pub mod Laws

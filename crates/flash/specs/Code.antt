@@ -4,7 +4,6 @@ use mathlib.Core.Bool.{Bool, true, false}
 use lib.Dec.{leb, eqb}
 use Rattle.law.specs.Choice.{pick}
 use Rattle.page.specs.Geometry.{flashSector, flashSectors}
-use Rattle.flash.specs.declared.Op.{Op}
 use Rattle.flash.specs.declared.Op.the-variants.{WriteEnable, WriteDisable, ReadStatus, WriteStatus, Read, Program, SectorErase, ChipErase, Identify}
 use Rattle.flash.specs.declared.Decoded.{Decoded}
 use Rattle.flash.specs.declared.Decoded.the-variants.{Is, Unknown}

@@ -28,7 +28,7 @@ runningOf (WriteStatus bits) = true
 
 -- a page to which nothing was sent: ff changes nothing at `end` and at `off`
 abbrev pub blank : List ℕ
-blank = replicate flashPage 255
+blank = replicate flashPage 0xff
 
 -- where no frame has data, only a PROGRAM cycle keeps a page
 abbrev pub pageIn : FlashCycle → List ℕ → List ℕ

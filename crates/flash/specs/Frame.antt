@@ -1,12 +1,12 @@
 -- A frame, from `sel` to `des`: its bytes and the replies to them (document 01, 'Flash rules').
-use Prim.Native.Nat.{ℕ, _+_, _*_, _/_, _%_}
+use Prim.Native.Nat.{ℕ, _+_, _-_, _*_, _/_, _%_}
 use mathlib.Core.Bool.{Bool, true, not}
 use mathlib.Core.List.{List}
 use lib.ListN.{set}
 use lib.Dec.{ltb, eqb}
 use Rattle.law.specs.Choice.{pick}
 use Rattle.page.specs.Geometry.{flashPage, flashSector, flashSize}
-use Rattle.page.specs.Rolling.{rolledIn}
+use Rattle.page.specs.Rolling.{rolledIn, nextIn}
 use Rattle.record.specs.declared.Skeleton.{Skeleton}
 use Rattle.record.specs.declared.Skeleton.the-variants.{Silent, Given, Fetch}
 use Rattle.flash.specs.Code.{decodeOf, sectorOf, wpen}
@@ -56,11 +56,11 @@ openedAs busy si fact = openedBy busy (decodeOf si) fact
 
 -- READ counts on, 1ffff to 00000
 abbrev pub countedOn : ℕ → ℕ
-countedOn place = pick (ltb place 0x1ffff) (place + 1) 0
+countedOn place = rolledIn (flashSize - 1) place
 
 -- PROGRAM: the low eight address bits roll over inside the page
 abbrev pub rolledOn : ℕ → ℕ
-rolledOn place = place / flashPage * flashPage + rolledIn 255 (place % flashPage)
+rolledOn place = nextIn flashPage place
 
 abbrev pub movedOn : Op → ℕ → ℕ
 movedOn WriteEnable place = place
@@ -73,9 +73,9 @@ movedOn SectorErase place = place
 movedOn ChipErase place = place
 movedOn Identify place = place
 
--- three address bytes, high first; A23 to A17 are ignored (WRSR's one byte comes in as the first of them)
+-- three address bytes, high first; A23 to A17 are ignored (WRSR's one byte comes in as the first of them; a byte has 256 values, and the first remainder only keeps the product in the code's range)
 abbrev pub withByte : ℕ → ℕ → ℕ
-withByte place si = (place % 512 * 256 + si) % flashSize
+withByte place si = (place % (flashSize / 256) * 256 + si) % flashSize
 
 -- one byte more; from the fifth on only the place moves
 abbrev pub nextSent : Op → Sent → ℕ → Sent

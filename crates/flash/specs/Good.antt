@@ -6,7 +6,8 @@ use mathlib.Core.List.{List}
 use lib.ListN.{length}
 use Rattle.law.specs.Choice.{pick}
 use Rattle.page.specs.Geometry.{flashPage, flashSectors, flashSize}
-use Rattle.flash.specs.Code.{wpen, keptBits}
+use Rattle.record.specs.Status.{StatusOk}
+use Rattle.flash.specs.Code.{wpen}
 use Rattle.flash.specs.Cycle.{blank}
 use Rattle.flash.specs.Side.{Side}
 use Rattle.flash.specs.declared.Op.{Op}
@@ -39,17 +40,17 @@ pub record StatusBits (s : ℕ) : Type 0 where
   pub middle : s / 16 % 8 ≡ 0
   pub low : s % 2 ≡ 0
 
-abbrev pub StatusOk : FlashStatus → Type 0
-StatusOk Lost = Unit {0}
-StatusOk (Known s) = StatusBits s
+abbrev pub FlashStatusOk : FlashStatus → Type 0
+FlashStatusOk Lost = Unit {0}
+FlashStatusOk (Known s) = StatusBits s
 
--- a PROGRAM is for one of 512 pages, an erase for one of four sectors; a WRSR sets bits 7, 3, 2
+-- a PROGRAM is for one of 512 pages, an erase for one of four sectors; a WRSR sets bits 7, 3, 2 alone
 abbrev pub CycleOk : FlashCycle → Type 0
 CycleOk cycle.None = Unit {0}
 CycleOk (cycle.Program n) = n < flashSize / flashPage
 CycleOk (cycle.SectorErase n) = (1 ≤ n) × (n ≤ flashSectors)
 CycleOk cycle.ChipErase = Unit {0}
-CycleOk (cycle.WriteStatus bits) = (keptBits bits ≡ bits) × (bits < 256)
+CycleOk (cycle.WriteStatus bits) = StatusOk bits
 
 -- in a cycle only RDSR is served, and no open frame has the lock fact
 abbrev pub WaitsOp : Op → Type 0
@@ -133,10 +134,10 @@ FactOk Absent status lock = Unit {0}
 FactOk Free status lock = HasWpen status × (lock ≡ false)
 FactOk Locked status lock = HasWpen status
 
-pub record Parts (fr : FlashFrame) (c : FlashCycle) (st : FlashStatus) (page : List ℕ) (supply lock : Bool) : Type 0 where
+pub record Fields (fr : FlashFrame) (c : FlashCycle) (st : FlashStatus) (page : List ℕ) (supply lock : Bool) : Type 0 where
   pub in-frame : FrameOk fr
   pub in-cycle : CycleOk c
-  pub in-status : StatusOk st
+  pub in-status : FlashStatusOk st
   pub whole : length page ≡ flashPage
   pub waits : InCycle c (Waits fr)
   pub known : InCycle c (IsKnown st)
@@ -145,4 +146,4 @@ pub record Parts (fr : FlashFrame) (c : FlashCycle) (st : FlashStatus) (page : L
   pub dark : supply ≡ false → (c ≡ cycle.None) × Shut fr
 
 abbrev pub Good : Side → Type 0
-Good s = Parts (s .chip .frame) (s .chip .cycle) (s .chip .status) (s .chip .page) (s .lines .supply) (s .lines .lock)
+Good s = Fields (s .chip .frame) (s .chip .cycle) (s .chip .status) (s .chip .page) (s .lines .supply) (s .lines .lock)

@@ -1,4 +1,4 @@
--- The flash's side of the board: the chip with the two lines that reach it.
+-- The flash with the two lines that reach it.
 use Prim.Native.Nat.{ℕ}
 use Rattle.record.specs.declared.FlashEvent.{FlashEvent}
 use Rattle.record.specs.declared.LineEvent.{LineEvent}

@@ -3,12 +3,11 @@ use Prim.Native.Nat.{ℕ}
 use mathlib.Core.Bool.{Bool, true, false}
 use mathlib.Core.List.{List}
 use Rattle.law.specs.Choice.{pick}
+use Rattle.record.specs.LineRules.{goesOff, lockComesOn}
 use Rattle.record.specs.declared.FlashEvent.{FlashEvent}
 use Rattle.record.specs.declared.FlashEvent.the-variants as event
 use Rattle.record.specs.declared.LineEvent.{LineEvent}
-use Rattle.record.specs.declared.LineEvent.the-variants.{SupplyOn, SupplyOff, LockOn, LockOff}
 use Rattle.record.specs.declared.Lines.{Lines}
-use Rattle.record.specs.declared.Skeleton.{Skeleton}
 use Rattle.record.specs.declared.Skeleton.the-variants.{Silent, Starts, Ends, NoCycle}
 use Rattle.flash.specs.Code.{keptBits}
 use Rattle.flash.specs.Frame.{factAt, openedAs, nextSent, replyTo, pageAfter, voidedBy, lockedFrame}
@@ -121,10 +120,7 @@ lockOnOf f = record { frame = lockedFrame (f .frame); cycle = f .cycle; status =
 
 -- a record of channel L, after these lines: a repeated line state does nothing; lock records count always
 abbrev pub lineOf : Flash → LineEvent → Lines → Flash
-lineOf f SupplyOn lines = f
-lineOf f SupplyOff lines = pick (lines .supply) (supplyOffOf f) f
-lineOf f LockOn lines = pick (lines .lock) f (lockOnOf f)
-lineOf f LockOff lines = f
+lineOf f e lines = pick (goesOff lines e) (supplyOffOf f) (pick (lockComesOn lines e) (lockOnOf f) f)
 
 abbrev pub isLost : FlashStatus → Bool
 isLost Lost = true

@@ -3,6 +3,7 @@ ghost use mathlib.Core.Path.{_≡_};
 ghost use Rattle.flash.specs.Cycle.{runningOf, pageIn, mayStart, lockBars, startsIf, setsIf, knownEffect, effectOf, endStatus, offStatus};
 use crate::Effect;
 use crate::FlashCycle;
+use crate::FlashPage;
 use crate::FlashStatus;
 use crate::LockFact;
 use crate::Op;
@@ -22,15 +23,15 @@ pub(crate) fn running(cycle: FlashCycle) -> bool
 }
 
 // The page that is left where no frame has data.
-pub(crate) fn page_in(cycle: FlashCycle, page: [u8; 256]) -> [u8; 256]
+pub(crate) fn page_in(cycle: FlashCycle, page: FlashPage) -> FlashPage
     ensures { λ r. ⌜ r ≡ pageIn cycle page ⌝ }
 {
     match cycle {
-        FlashCycle::None => [255u8; 256],
+        FlashCycle::None => [0xff; page::FLASH_PAGE as usize],
         FlashCycle::Program(_) => page,
-        FlashCycle::SectorErase(_) => [255u8; 256],
-        FlashCycle::ChipErase => [255u8; 256],
-        FlashCycle::WriteStatus(_) => [255u8; 256],
+        FlashCycle::SectorErase(_) => [0xff; page::FLASH_PAGE as usize],
+        FlashCycle::ChipErase => [0xff; page::FLASH_PAGE as usize],
+        FlashCycle::WriteStatus(_) => [0xff; page::FLASH_PAGE as usize],
     }
 }
 

@@ -4,6 +4,7 @@ ghost use Rattle.law.specs.Deciding.{Decides};
 ghost use Rattle.flash.specs.Equal.{opNumber, factNumber, frameNumbers, cycleNumbers, statusNumbers};
 use crate::FlashCycle;
 use crate::FlashFrame;
+use crate::FlashPage;
 use crate::FlashStatus;
 use crate::LockFact;
 use crate::Op;
@@ -91,7 +92,7 @@ pub(crate) fn same_status(a: FlashStatus, b: FlashStatus) -> bool
     law::same_numbers(status_numbers(a), status_numbers(b))
 }
 
-pub(crate) fn same_page(a: [u8; 256], b: [u8; 256]) -> bool
+pub(crate) fn same_page(a: FlashPage, b: FlashPage) -> bool
     ensures { λ r. ⌜ Decides r (a ≡ b) ⌝ }
 {
     check::same(&a, &b)

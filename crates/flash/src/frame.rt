@@ -3,6 +3,7 @@ ghost use mathlib.Core.Path.{_≡_};
 ghost use Rattle.flash.specs.Frame.{factAt, served, openedAs, movedOn, nextSent, fetchOf, identityOf, statusReply, replyTo, putByte, pageAfter, voidedBy, lockedFact, lockedFrame};
 use crate::Decoded;
 use crate::FlashFrame;
+use crate::FlashPage;
 use crate::FlashStatus;
 use crate::LockFact;
 use crate::Op;
@@ -75,9 +76,9 @@ fn moved_on(op: Op, place: u32) -> u32
         Op::WriteDisable => place,
         Op::ReadStatus => place,
         Op::WriteStatus => place,
-        Op::Read => { if place < 0x1ffff { place + 1 } else { 0 } }
+        Op::Read => page::rolled(place, page::FLASH_SIZE - 1),
         Op::Program => place / page::FLASH_PAGE * page::FLASH_PAGE
-            + page::rolled((place % page::FLASH_PAGE) as u8, 255) as u32,
+            + page::rolled(place % page::FLASH_PAGE, page::FLASH_PAGE - 1),
         Op::SectorErase => place,
         Op::ChipErase => place,
         Op::Identify => place,
@@ -93,7 +94,7 @@ pub(crate) fn next_sent(op: Op, sent: Sent, si: u8) -> Sent
     if count < 4 {
         Sent {
             count: count + 1,
-            place: (place % 512 * 256 + si as u32) % page::FLASH_SIZE,
+            place: (place % (page::FLASH_SIZE / 256) * 256 + si as u32) % page::FLASH_SIZE,
         }
     } else {
         Sent {
@@ -157,7 +158,7 @@ pub(crate) fn reply_to(op: Op, sent: Sent, busy: bool, status: FlashStatus, watc
 }
 
 // A data byte of PROGRAM is put at its place in the page.
-fn put_byte(sent: Sent, si: u8, page: [u8; 256]) -> [u8; 256]
+fn put_byte(sent: Sent, si: u8, page: FlashPage) -> FlashPage
     ensures { λ r. ⌜ r ≡ putByte sent si page ⌝ }
 {
     let mut next = page;
@@ -170,7 +171,7 @@ fn put_byte(sent: Sent, si: u8, page: [u8; 256]) -> [u8; 256]
 }
 
 // The page after a byte that follows the op-code.
-pub(crate) fn page_after(op: Op, sent: Sent, si: u8, page: [u8; 256]) -> [u8; 256]
+pub(crate) fn page_after(op: Op, sent: Sent, si: u8, page: FlashPage) -> FlashPage
     ensures { λ r. ⌜ r ≡ pageAfter op sent si page ⌝ }
 {
     match op {

@@ -68,12 +68,14 @@ pub enum FlashStatus {
     Known(u8),
 }
 
+pub type FlashPage = [u8; page::FLASH_PAGE as usize];
+
 // The page holds the bytes of the PROGRAM that is sent or written, each at its place, and ff where none was sent.
 pub struct Flash {
     pub frame: FlashFrame,
     pub cycle: FlashCycle,
     pub status: FlashStatus,
-    pub page: [u8; 256],
+    pub page: FlashPage,
 }
 
 pub struct FlashStep {
@@ -126,7 +128,7 @@ pub fn same(a: Flash, b: Flash) -> bool
 }
 
 // A chip whose frame has no data: only a PROGRAM cycle keeps a page.
-fn bare_chip(frame: FlashFrame, cycle: FlashCycle, status: FlashStatus, page: [u8; 256]) -> Flash
+fn bare_chip(frame: FlashFrame, cycle: FlashCycle, status: FlashStatus, page: FlashPage) -> Flash
     ensures { λ r. ⌜ r ≡ bare frame cycle status page ⌝ }
 {
     let left = cycle::page_in(cycle, page);
@@ -157,7 +159,7 @@ impl Flash {
             frame: FlashFrame::Idle,
             cycle: FlashCycle::None,
             status: FlashStatus::Known(s),
-            page: [255u8; 256],
+            page: [0xff; page::FLASH_PAGE as usize],
         }
     }
 
@@ -356,17 +358,13 @@ impl Flash {
     pub fn line(self, e: LineEvent, lines: Lines) -> Flash
         ensures { λ r. ⌜ r ≡ lineOf self e lines ⌝ }
     {
-        match e {
-            LineEvent::SupplyOn => self,
-            LineEvent::SupplyOff => {
-                if lines.supply {
-                    self.supply_off()
-                } else {
-                    self
-                }
-            }
-            LineEvent::LockOn => { if lines.lock { self } else { self.lock_on() } }
-            LineEvent::LockOff => self,
+        if record::goes_off(lines, e) {
+            return self.supply_off();
+        }
+        if record::lock_comes_on(lines, e) {
+            self.lock_on()
+        } else {
+            self
         }
     }
 

@@ -1,20 +1,20 @@
 -- What stands at a place after a cycle that ended or was cut, and that only the places sent change. Assumes nothing.
-use mathlib.Core.Path.{_≡_, ap, _∙_}
+use mathlib.Core.Path.{_≡_, ap, ap₂, _∙_}
 use mathlib.Core.Bool.{true, false}
 use mathlib.Core.List.{List}
 use Prim.Native.Nat.{ℕ, _+_, _*_, _/_, _%_, _≤_, _<_}
 use native.Mathlib.Omega.{arith}
-use borrow.Author.Tests.{lt-ltb, le-ltb}
 use lib.ListN.{length, getD, replicate, getD-replicate}
 use Rattle.law.specs.Choice.{pick}
+use Rattle.cell.specs.declared.Cell.{Cell}
 use Rattle.cell.specs.Rules.{erasedCell, doubtfulCell, storedCell, programmedCell, cutCell, ByteCell}
 use Rattle.cell.proofs.Neutral.{programmed-ff, cut-ff}
 use Rattle.page.specs.Geometry.{flashPage, eepromPage}
 use Rattle.page.specs.Rolling.{sentPlace, roll}
 use Rattle.page.specs.Laws.{roll-unsent}
 use Rattle.image.specs.Image.{Image, sizeOf, spans, cellAt}
-use Rattle.image.specs.Cycles.{programPage, cutProgramPage, eraseAll, cutEraseAll, storePage, cutStorePage, isSent}
-use Rattle.image.proofs.Reading.{on-at, page-at-place, page-same, page-keeping}
+use Rattle.image.specs.Cycles.{programPage, cutProgramPage, eraseAll, cutEraseAll, storePage, cutStorePage}
+use Rattle.image.proofs.Reading.{on-at, page-at-place, page-same}
 use Rattle.image.proofs.Fitting.{page-none}
 
 -- an image of n bytes
@@ -32,29 +32,33 @@ module _ (i : Image) (n : ℕ) (t : spans n i ≡ true) where
     unfolding programPage
     programPage-at = page-at-place flashPage number (λ j c. programmedCell c (getD bytes j 0)) i n t h q l
 
+    -- an erased place that is programmed has the data, whole
+    pub programPage-erased : cellAt i (flashPage * number + q) ≡ erasedCell → (d : ℕ) → getD bytes q 0 ≡ d → cellAt (programPage number bytes i) (flashPage * number + q) ≡ programmedCell erasedCell d
+    programPage-erased e d b = programPage-at ∙ ap₂ (λ (c : Cell) (x : ℕ). programmedCell c x) e b
+
     pub cutProgramPage-at : cellAt (cutProgramPage number bytes i) (flashPage * number + q) ≡ cutCell (cellAt i (flashPage * number + q)) (getD bytes q 0)
     unfolding cutProgramPage
     cutProgramPage-at = page-at-place flashPage number (λ j c. cutCell c (getD bytes j 0)) i n t h q l
 
-  module _ (number first count : ℕ) (bytes : List ℕ) (h : number < n / eepromPage) (f : first < eepromPage) (q : ℕ) (l : q < eepromPage) (w : sentPlace eepromPage first count q ≡ true) where
+  module _ (number first count : ℕ) (bytes : List ℕ) (h : number < n / eepromPage) (q : ℕ) (l : q < eepromPage) (w : sentPlace eepromPage first count q ≡ true) where
     pub storePage-at : cellAt (storePage number first count bytes i) (eepromPage * number + q) ≡ storedCell (getD bytes q 0)
     unfolding storePage
     storePage-at =
-        page-at-place eepromPage number (λ j c. pick (isSent first count j) (storedCell (getD bytes j 0)) c) i n t h q l ∙ simp (lt-ltb _ _ f, w)
+        page-at-place eepromPage number (λ j c. pick (sentPlace eepromPage first count j) (storedCell (getD bytes j 0)) c) i n t h q l ∙ simp w
 
     pub cutStorePage-at : cellAt (cutStorePage number first count i) (eepromPage * number + q) ≡ doubtfulCell
     unfolding cutStorePage
-    cutStorePage-at = page-at-place eepromPage number (λ j c. pick (isSent first count j) doubtfulCell c) i n t h q l ∙ simp (lt-ltb _ _ f, w)
+    cutStorePage-at = page-at-place eepromPage number (λ j c. pick (sentPlace eepromPage first count j) doubtfulCell c) i n t h q l ∙ simp w
 
 -- a place that was not sent is as it was
-module _ (number first count : ℕ) (bytes : List ℕ) (i : Image) (k : ℕ) (u : isSent first count (k % eepromPage) ≡ false) where
+module _ (number first count : ℕ) (bytes : List ℕ) (i : Image) (k : ℕ) (u : sentPlace eepromPage first count (k % eepromPage) ≡ false) where
   pub storePage-unsent : cellAt (storePage number first count bytes i) k ≡ cellAt i k
   unfolding storePage
-  storePage-unsent = page-same eepromPage number (λ q c. pick (isSent first count q) (storedCell (getD bytes q 0)) c) i k (simp u)
+  storePage-unsent = page-same eepromPage number (λ q c. pick (sentPlace eepromPage first count q) (storedCell (getD bytes q 0)) c) i k (simp u)
 
   pub cutStorePage-unsent : cellAt (cutStorePage number first count i) k ≡ cellAt i k
   unfolding cutStorePage
-  cutStorePage-unsent = page-same eepromPage number (λ q c. pick (isSent first count q) doubtfulCell c) i k (simp u)
+  cutStorePage-unsent = page-same eepromPage number (λ q c. pick (sentPlace eepromPage first count q) doubtfulCell c) i k (simp u)
 
 -- ff changes nothing
 module _ (number : ℕ) (bytes : List ℕ) (i : Image) (k : ℕ) (b : ByteCell (cellAt i k)) (u : getD bytes (k % flashPage) 0 ≡ 255) where
@@ -81,7 +85,7 @@ module _ (number first : ℕ) (ds : List ℕ) (i : Image) (k : ℕ) (b : ByteCel
   pub cutProgramPage-unsent : cellAt (cutProgramPage number (roll flashPage first ds (replicate flashPage 255)) i) k ≡ cellAt i k
   cutProgramPage-unsent = cutProgramPage-ff number (roll flashPage first ds (replicate flashPage 255)) i k b unsent-ff
 
--- a page number that no page has, and a first place that a page has not, change nothing
+-- a page number that no page has changes nothing
 module _ (number : ℕ) (i : Image) where
   pub programPage-none : (bytes : List ℕ) → sizeOf i / flashPage ≤ number → programPage number bytes i ≡ i
   unfolding programPage
@@ -93,18 +97,8 @@ module _ (number : ℕ) (i : Image) where
 
   pub storePage-none : (first count : ℕ) (bytes : List ℕ) → sizeOf i / eepromPage ≤ number → storePage number first count bytes i ≡ i
   unfolding storePage
-  storePage-none first count bytes h = page-none i eepromPage number (λ q c. pick (isSent first count q) (storedCell (getD bytes q 0)) c) h
+  storePage-none first count bytes h = page-none i eepromPage number (λ q c. pick (sentPlace eepromPage first count q) (storedCell (getD bytes q 0)) c) h
 
   pub cutStorePage-none : (first count : ℕ) → sizeOf i / eepromPage ≤ number → cutStorePage number first count i ≡ i
   unfolding cutStorePage
-  cutStorePage-none first count h = page-none i eepromPage number (λ q c. pick (isSent first count q) doubtfulCell c) h
-
-  pub storePage-first : (first count : ℕ) (bytes : List ℕ) → eepromPage ≤ first → storePage number first count bytes i ≡ i
-  unfolding storePage
-  storePage-first first count bytes h =
-      page-keeping eepromPage number (λ q c. pick (isSent first count q) (storedCell (getD bytes q 0)) c) i (λ q c. simp (le-ltb _ _ h))
-
-  pub cutStorePage-first : (first count : ℕ) → eepromPage ≤ first → cutStorePage number first count i ≡ i
-  unfolding cutStorePage
-  cutStorePage-first first count h =
-      page-keeping eepromPage number (λ q c. pick (isSent first count q) doubtfulCell c) i (λ q c. simp (le-ltb _ _ h))
+  cutStorePage-none first count h = page-none i eepromPage number (λ q c. pick (sentPlace eepromPage first count q) doubtfulCell c) h

@@ -2,8 +2,8 @@
 use mathlib.Core.Path.{_≡_}
 use mathlib.Core.Bool.{Bool, true}
 use Rattle.law.specs.Choice.{both}
-use Rattle.image.specs.declared.view.Chip.{Chip}
-use Rattle.image.specs.declared.view.Chip.the-variants.{Flash, Eeprom}
+use Rattle.record.specs.declared.Chip.{Chip}
+use Rattle.record.specs.declared.Chip.the-variants.{Flash, Eeprom}
 use Rattle.image.specs.Image.{Image}
 use Rattle.image.specs.Images.{Images, imageAt, everyChip, every}
 
@@ -21,7 +21,3 @@ module _ (test : Chip → Image → Bool) (x : Images) where
 
   pub each-every : ((chip : Chip) → test chip (imageAt chip x) ≡ true) → every test x ≡ true
   each-every = all-chips (λ chip. test chip (imageAt chip x))
-
--- images are equal where each chip's are
-pub same-images : (x y : Images) → ((chip : Chip) → imageAt chip x ≡ imageAt chip y) → x ≡ y
-same-images x y h = λ i. record { flash = h Flash i; eeprom = h Eeprom i }

@@ -1,21 +1,21 @@
 -- What every cycle keeps, ended or cut: an image's lengths, that no bit is set in both value and mask, and that all are bytes.
 -- Assumes nothing.
-use mathlib.Core.Path.{_≡_, sym, ap, _∙_, subst}
+use mathlib.Core.Path.{_≡_, sym, subst}
 use mathlib.Core.Logic.{⊎-elim}
 use mathlib.Core.List.{List}
 use Prim.Native.Nat.{ℕ, _/_, _%_, _<_}
 use native.Mathlib.Omega.{arith}
 use lib.Dec.{eqb}
-use lib.Bits.{bitAnd, and-zero-l}
-use lib.ListN.{length, getD, List·getD-eq-default}
+use lib.ListN.{getD}
 use Rattle.law.specs.Choice.{pick, split, of-both, lt-or-le}
 use Rattle.cell.specs.declared.Cell.{Cell}
 use Rattle.cell.specs.Rules.{erasedCell, doubtfulCell, storedCell, programmedCell, cutCell, Disjoint, ByteCell}
 use Rattle.cell.proofs.Disjoint.{disjoint-erased, disjoint-doubtful, disjoint-stored, disjoint-programmed, disjoint-cut}
 use Rattle.cell.proofs.Neutral.{byte-erased, byte-doubtful, byte-stored, byte-programmed, byte-cut}
 use Rattle.page.specs.Geometry.{flashPage, eepromPage}
-use Rattle.image.specs.Image.{Image, sizeOf, fits, spans, cellAt, onImage, inPage, onPage, Clean, Bytes}
-use Rattle.image.specs.Cycles.{programPage, cutProgramPage, eraseAll, cutEraseAll, storePage, cutStorePage, isSent}
+use Rattle.page.specs.Rolling.{sentPlace}
+use Rattle.image.specs.Image.{Image, sizeOf, fits, spans, cellAt, onImage, inPage, onPage, Clean}
+use Rattle.image.specs.Cycles.{programPage, cutProgramPage, eraseAll, cutEraseAll, storePage, cutStorePage}
 use Rattle.image.proofs.Fitting.{fits-spans, on-unfit, page-there, page-none}
 use Rattle.image.proofs.Reading.{noCell, on-spans, on-at, on-past, page-spans}
 
@@ -39,11 +39,11 @@ module _ (i : Image) (n : ℕ) where
 
   pub spans-storePage : (number first count : ℕ) (bytes : List ℕ) → spans n (storePage number first count bytes i) ≡ spans n i
   unfolding storePage
-  spans-storePage number first count bytes = page-spans eepromPage number (λ q c. pick (isSent first count q) (storedCell (getD bytes q 0)) c) i n
+  spans-storePage number first count bytes = page-spans eepromPage number (λ q c. pick (sentPlace eepromPage first count q) (storedCell (getD bytes q 0)) c) i n
 
   pub spans-cutStorePage : (number first count : ℕ) → spans n (cutStorePage number first count i) ≡ spans n i
   unfolding cutStorePage
-  spans-cutStorePage number first count = page-spans eepromPage number (λ q c. pick (isSent first count q) doubtfulCell c) i n
+  spans-cutStorePage number first count = page-spans eepromPage number (λ q c. pick (sentPlace eepromPage first count q) doubtfulCell c) i n
 
 -- what the rule keeps of each byte, the image keeps of all
 module _ (P : Cell → Type 0) (none : P noCell) (i : Image) (had : (k : ℕ) → P (cellAt i k)) where
@@ -91,22 +91,18 @@ module _ (i : Image) (h : Clean i) where
   pub clean-storePage : (number first count : ℕ) (bytes : List ℕ) → Clean (storePage number first count bytes i)
   unfolding storePage Clean
   clean-storePage number first count bytes =
-      page-keeps Disjoint none i h eepromPage number (λ q c. pick (isSent first count q) (storedCell (getD bytes q 0)) c)
-      (λ q c p. of-both Disjoint (isSent first count q) (storedCell (getD bytes q 0)) c (disjoint-stored (getD bytes q 0)) p)
+      page-keeps Disjoint none i h eepromPage number (λ q c. pick (sentPlace eepromPage first count q) (storedCell (getD bytes q 0)) c)
+      (λ q c p. of-both Disjoint (sentPlace eepromPage first count q) (storedCell (getD bytes q 0)) c (disjoint-stored (getD bytes q 0)) p)
 
   pub clean-cutStorePage : (number first count : ℕ) → Clean (cutStorePage number first count i)
   unfolding cutStorePage Clean
   clean-cutStorePage number first count =
-      page-keeps Disjoint none i h eepromPage number (λ q c. pick (isSent first count q) doubtfulCell c)
-      (λ q c p. of-both Disjoint (isSent first count q) doubtfulCell c disjoint-doubtful p)
+      page-keeps Disjoint none i h eepromPage number (λ q c. pick (sentPlace eepromPage first count q) doubtfulCell c)
+      (λ q c p. of-both Disjoint (sentPlace eepromPage first count q) doubtfulCell c disjoint-doubtful p)
 
--- it is enough to look at the places that an image has
-pub clean-places : (i : Image) → ((k : ℕ) → k < length (i .values) → Disjoint (cellAt i k)) → Clean i
-unfolding Clean Disjoint
-clean-places i h k =
-    ⊎-elim (λ l. h k l)
-    (λ l. ap (λ (v : ℕ). bitAnd v (getD (i .masks) k 0)) (List·getD-eq-default (i .values) 0 {n = k} l) ∙ and-zero-l (getD (i .masks) k 0))
-    (lt-or-le k (length (i .values)))
+-- values and masks are bytes
+unfoldable pub Bytes : Image → Type 0
+Bytes i = (k : ℕ) → ByteCell (cellAt i k)
 
 -- values and masks stay bytes
 module _ (i : Image) (h : Bytes i) where
@@ -134,11 +130,11 @@ module _ (i : Image) (h : Bytes i) where
   pub bytes-storePage : (number first count : ℕ) (bytes : List ℕ) → ((q : ℕ) → getD bytes q 0 < 256) → Bytes (storePage number first count bytes i)
   unfolding storePage Bytes
   bytes-storePage number first count bytes small =
-      page-keeps ByteCell zero-byte i h eepromPage number (λ q c. pick (isSent first count q) (storedCell (getD bytes q 0)) c)
-      (λ q c p. of-both ByteCell (isSent first count q) (storedCell (getD bytes q 0)) c (byte-stored (getD bytes q 0) (small q)) p)
+      page-keeps ByteCell zero-byte i h eepromPage number (λ q c. pick (sentPlace eepromPage first count q) (storedCell (getD bytes q 0)) c)
+      (λ q c p. of-both ByteCell (sentPlace eepromPage first count q) (storedCell (getD bytes q 0)) c (byte-stored (getD bytes q 0) (small q)) p)
 
   pub bytes-cutStorePage : (number first count : ℕ) → Bytes (cutStorePage number first count i)
   unfolding cutStorePage Bytes
   bytes-cutStorePage number first count =
-      page-keeps ByteCell zero-byte i h eepromPage number (λ q c. pick (isSent first count q) doubtfulCell c)
-      (λ q c p. of-both ByteCell (isSent first count q) doubtfulCell c byte-doubtful p)
+      page-keeps ByteCell zero-byte i h eepromPage number (λ q c. pick (sentPlace eepromPage first count q) doubtfulCell c)
+      (λ q c p. of-both ByteCell (sentPlace eepromPage first count q) doubtfulCell c byte-doubtful p)

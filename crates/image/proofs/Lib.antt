@@ -6,4 +6,3 @@ pub mod Reading
 pub mod AtPlace
 pub mod Keeping
 pub mod Shown
-pub mod Bench

@@ -5,10 +5,9 @@ use mathlib.Core.Bool.{true}
 use Prim.Native.Nat.{ℕ, _+_, _*_, _/_, _%_, _≤_, _<_}
 use native.Mathlib.Nat.{le-div-iff-mul-le}
 use native.Mathlib.Omega.{arith}
-use borrow.Author.Tests.{eqb-true, eqb-false, ltb-true, ltb-false}
-use lib.Dec.{eqb, ltb}
+use borrow.Author.Tests.{eqb-true, eqb-false}
+use lib.Dec.{eqb}
 use lib.ListN.{length, getD, List·getD-eq-default}
-use lib.Seq.{ext-getD}
 use Rattle.law.specs.Choice.{split, lt-or-le}
 use Rattle.law.specs.Places.{byPlace-length, byPlace-at}
 use Rattle.cell.specs.declared.Cell.{Cell}
@@ -25,10 +24,6 @@ past-end i k v m =
     λ j. record { value = List·getD-eq-default (i .values) 0 {n = k} v j; mask = List·getD-eq-default (i .masks) 0 {n = k} m j }
 
 module _ (rule : ℕ → Cell → Cell) (i : Image) where
-  pub each-fits : fits (eachPlace rule i) ≡ fits i
-  unfolding fits eachPlace
-  each-fits = simp byPlace-length
-
   pub each-spans : (n : ℕ) → spans n (eachPlace rule i) ≡ spans n i
   unfolding spans eachPlace
   each-spans n = simp byPlace-length
@@ -109,25 +104,3 @@ module _ (size number : ℕ) (rule : ℕ → Cell → Cell) (i : Image) where
   page-same k e =
       stays k (split (eqb (k / size) number) (λ t. in-page size number rule k (cellAt i k) (eqb-true _ _ t) ∙ e)
       (λ t. off-page size number rule k (cellAt i k) (eqb-false _ _ t)))
-
--- two images of one length are equal where their bytes are
-pub same-cells : (n : ℕ) (i j : Image) → spans n i ≡ true → spans n j ≡ true → ((k : ℕ) → k < n → cellAt i k ≡ cellAt j k) → i ≡ j
-same-cells n i j s t e =
-    let v : i .values ≡ j .values =
-    ext-getD 0 (i .values) (j .values) (spans-values i n s ∙ sym (spans-values j n t))
-    (λ k h. ap (λ (c : Cell). c .value) (e k (rw (spans-values i n s) at h))) in
-    let m : i .masks ≡ j .masks =
-    ext-getD 0 (i .masks) (j .masks) (spans-masks i n s ∙ sym (spans-masks j n t))
-    (λ k h. ap (λ (c : Cell). c .mask) (e k (rw (spans-masks i n s) at h))) in
-    λ x. record { values = v x; masks = m x }
-
--- a rule that keeps every byte keeps the image
-pub page-keeping : (size number : ℕ) (rule : ℕ → Cell → Cell) (i : Image) → ((q : ℕ) (c : Cell) → rule q c ≡ c) → onPage size number rule i ≡ i
-page-keeping size number rule i keeps =
-    split (fits i)
-    (λ t.
-    same-cells (sizeOf i) (onPage size number rule i) i (page-spans size number rule i (sizeOf i) ∙ fits-spans i t) (fits-spans i t)
-    (λ k h. page-same size number rule i k (keeps (k % size) (cellAt i k))))
-    (λ t. split (ltb number (sizeOf i / size))
-    (λ l. page-there i size number rule (ltb-true _ _ l) ∙ on-unfit i (inPage size number rule) t)
-    (λ l. page-none i size number rule (ltb-false _ _ l)))

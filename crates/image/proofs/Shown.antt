@@ -2,14 +2,14 @@
 use mathlib.Core.Path.{_≡_, refl, sym, ap, _∙_}
 use mathlib.Core.Bool.{true, false}
 use mathlib.Core.List.{List, []}
-use Prim.Native.Nat.{ℕ, _+_, _*_, _/_, _≤_, _<_}
+use Prim.Native.Nat.{ℕ, _+_, _*_, _≤_, _<_}
 use native.Mathlib.Omega.{arith}
 use lib.Dec.{eqb, ltb}
 use borrow.Author.Tests.{eqb-true, ltb-true}
 use lib.ListN.{length, take, drop, length-take, length-drop}
-use Rattle.law.specs.Choice.{pick, split, both}
-use Rattle.image.specs.declared.view.Chip.{Chip}
-use Rattle.image.specs.declared.view.Chip.the-variants.{Flash, Eeprom}
+use Rattle.law.specs.Choice.{split, both}
+use Rattle.record.specs.declared.Chip.{Chip}
+use Rattle.record.specs.declared.Chip.the-variants.{Flash, Eeprom}
 use Rattle.image.specs.Images.{perChip, everyChip, keptBytes, pageSize, pagesOf}
 use Rattle.image.proofs.Each.{chip-by-chip}
 use Rattle.image.specs.View.{canShow, viewPlace, viewLength, pageShown}
@@ -24,11 +24,7 @@ pub page-within : (chip : Chip) (number : ℕ) → number < pagesOf chip → pag
 page-within Flash number h = omega arith
 page-within Eeprom number h = omega arith
 
--- the pages make up the kept bytes; document 01 gives the last one's number
-pub last-page : (chip : Chip) → pageSize chip * pagesOf chip ≡ keptBytes chip
-last-page Flash = refl
-last-page Eeprom = refl
-
+-- document 01 gives the last page's number
 pub last-is : (chip : Chip) → pagesOf chip ≡ perChip 127 511 chip + 1
 last-is Flash = refl
 last-is Eeprom = refl

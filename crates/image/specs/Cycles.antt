@@ -1,17 +1,12 @@
 -- What a cycle makes of a chip's kept bytes: one rule where it ended whole, one where the supply cut it (document 01, 'Flash rules',
 -- 'EEPROM rules', 'Supply').
 use Prim.Native.Nat.{ℕ}
-use mathlib.Core.Bool.{Bool, false}
 use mathlib.Core.List.{List}
-use lib.Dec.{ltb}
 use lib.ListN.{getD}
 use Rattle.law.specs.Choice.{pick}
-use Rattle.cell.specs.declared.Cell.{Cell}
 use Rattle.cell.specs.Rules.{erasedCell, doubtfulCell, storedCell, programmedCell, cutCell}
 use Rattle.page.specs.Geometry.{flashPage, eepromPage}
 use Rattle.page.specs.Rolling.{sentPlace}
-use Rattle.image.specs.declared.Change.{Change}
-use Rattle.image.specs.declared.Change.the-variants.{Program, CutProgram, Store, CutStore}
 use Rattle.image.specs.Image.{Image, onImage, onPage}
 
 -- PROGRAM at `end`. `bytes` has ff where nothing was sent, which changes nothing: so only the bytes sent change (law `programPage-unsent`)
@@ -30,24 +25,10 @@ eraseAll = onImage (λ k c. erasedCell)
 unfoldable pub cutEraseAll : Image → Image
 cutEraseAll = onImage (λ k c. doubtfulCell)
 
--- was place q of an EEPROM page sent, by count bytes from place first on? None was, where first is no place of a page
-abbrev pub isSent : ℕ → ℕ → ℕ → Bool
-isSent first count q = pick (ltb first eepromPage) (sentPlace eepromPage first count q) false
-
 -- an EEPROM write at `end`: the bytes sent are put in
 unfoldable pub storePage : ℕ → ℕ → ℕ → List ℕ → Image → Image
-storePage number first count bytes = onPage eepromPage number (λ q c. pick (isSent first count q) (storedCell (getD bytes q 0)) c)
+storePage number first count bytes = onPage eepromPage number (λ q c. pick (sentPlace eepromPage first count q) (storedCell (getD bytes q 0)) c)
 
 -- an EEPROM write at `off`: the bytes sent are 00/ff, others unchanged
 unfoldable pub cutStorePage : ℕ → ℕ → ℕ → Image → Image
-cutStorePage number first count = onPage eepromPage number (λ q c. pick (isSent first count q) doubtfulCell c)
-
--- the four page rules at a place q with data d, as the code tells them apart
-abbrev pub changedCell : Change → ℕ → Cell → ℕ → Cell
-changedCell Program q c d = programmedCell c d
-changedCell CutProgram q c d = cutCell c d
-changedCell (Store first count) q c d = pick (isSent first count q) (storedCell d) c
-changedCell (CutStore first count) q c d = pick (isSent first count q) doubtfulCell c
-
-abbrev pub changedPlace : Change → List ℕ → ℕ → Cell → Cell
-changedPlace how bytes q c = changedCell how q c (getD bytes q 0)
+cutStorePage number first count = onPage eepromPage number (λ q c. pick (sentPlace eepromPage first count q) doubtfulCell c)

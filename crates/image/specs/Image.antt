@@ -7,7 +7,7 @@ use lib.ListN.{length, getD}
 use Rattle.law.specs.Choice.{pick}
 use Rattle.law.specs.Places.{byPlace}
 use Rattle.cell.specs.declared.Cell.{Cell}
-use Rattle.cell.specs.Rules.{Disjoint, ByteCell}
+use Rattle.cell.specs.Rules.{Disjoint}
 
 pub record Image : Type 0 where
   pub values : List ℕ
@@ -59,7 +59,3 @@ onPage size number rule i = pick (ltb number (sizeOf i / size)) (onImage (inPage
 -- 'Bytes and doubt': a doubtful bit is 0 in the value, at every place
 unfoldable pub Clean : Image → Type 0
 Clean i = (k : ℕ) → Disjoint (cellAt i k)
-
--- values and masks are bytes
-unfoldable pub Bytes : Image → Type 0
-Bytes i = (k : ℕ) → ByteCell (cellAt i k)

@@ -5,8 +5,8 @@ use mathlib.Core.Bool.{Bool, true, false}
 use mathlib.Core.List.{List}
 use Rattle.law.specs.Choice.{pick}
 use Rattle.page.specs.Geometry.{flashPage, flashSector, eepromPage, eepromSize}
-use Rattle.image.specs.declared.view.Chip.{Chip}
-use Rattle.image.specs.declared.view.Chip.the-variants.{Flash, Eeprom}
+use Rattle.record.specs.declared.Chip.{Chip}
+use Rattle.record.specs.declared.Chip.the-variants.{Flash, Eeprom}
 use Rattle.image.specs.Image.{Image, imageOf, spans, Clean}
 
 pub record Images : Type 0 where
@@ -50,6 +50,6 @@ pagesOf chip = keptBytes chip / pageSize chip
 abbrev pub Kept : Images → Type 0
 Kept x = (chip : Chip) → spans (keptBytes chip) (imageAt chip x) ≡ true
 
--- and in none a doubtful bit is set
+-- and in none is a doubtful bit 1 in the value
 abbrev pub AllClean : Images → Type 0
 AllClean x = (chip : Chip) → Clean (imageAt chip x)

@@ -2,4 +2,5 @@
 pub mod Image
 pub mod Images
 pub mod Cycles
+pub mod Changing
 pub mod View

@@ -5,7 +5,7 @@ use mathlib.Core.List.{List, []}
 use lib.Dec.{eqb, ltb}
 use lib.ListN.{length, take, drop}
 use Rattle.law.specs.Choice.{pick}
-use Rattle.image.specs.declared.view.Chip.{Chip}
+use Rattle.record.specs.declared.Chip.{Chip}
 use Rattle.image.specs.Images.{everyChip, keptBytes, pageSize, pagesOf}
 
 -- refusal 11 is given where this is false: a page number above the chip's last (127 and 511), or an image, of any chip, not as long as is kept (32,768 bytes). `long` has the images' lengths

@@ -4,13 +4,35 @@ ghost use mathlib.Core.Path.{_≡_};
 ghost use Prim.Native.Nat.{_+_, _*_, _≤_, _<_};
 ghost use lib.ListN.{length};
 ghost use Rattle.law.specs.Places.{byPlace};
+ghost use Rattle.page.specs.Geometry.{flashPage, eepromPage};
+ghost use Rattle.page.specs.Rolling.{sentPlace};
 ghost use Rattle.image.specs.Image.{imageOf, eachPlace, onImage, inPage, onPage};
-ghost use Rattle.image.specs.Cycles.{programPage, cutProgramPage, eraseAll, cutEraseAll, storePage, cutStorePage, isSent, changedCell, changedPlace};
+ghost use Rattle.image.specs.Images.{keptBytes};
+ghost use Rattle.image.specs.Cycles.{programPage, cutProgramPage, eraseAll, cutEraseAll, storePage, cutStorePage};
+ghost use Rattle.image.specs.Changing.{changedCell, changedPlace};
 use cell::Cell;
+use record::Chip;
 
 pub mod view;
 
+const FLASH_PAGE: usize = page::FLASH_PAGE as usize;
+
 const EEPROM_PAGE: usize = page::EEPROM_PAGE as usize;
+
+// How many bytes are kept: of the flash one sector, of the EEPROM all.
+pub const FLASH_KEPT: usize = page::FLASH_SECTOR as usize;
+
+pub const EEPROM_KEPT: usize = page::EEPROM_SIZE as usize;
+
+// What refusals 1 and 11 ask for.
+pub fn kept_bytes(chip: Chip) -> usize
+    ensures { λ r. ⌜ r ≡ keptBytes chip ⌝ }
+{
+    match chip {
+        Chip::Flash => FLASH_KEPT,
+        Chip::Eeprom => EEPROM_KEPT,
+    }
+}
 
 // What becomes of the places of a page.
 enum Change {
@@ -21,14 +43,14 @@ enum Change {
 }
 
 // The end of PROGRAM in page `number`: `bytes` is ff where nothing was sent.
-pub fn program_page(values: &mut [u8], masks: &mut [u8], number: usize, bytes: [u8; 256])
+pub fn program_page(values: &mut [u8], masks: &mut [u8], number: usize, bytes: [u8; FLASH_PAGE])
     ensures { λ _. ⌜ imageOf (now (values .exit)) (now (masks .exit)) ≡ programPage number bytes (imageOf (now (values .entry)) (now (masks .entry))) ⌝ }
 {
     change_page(values, masks, Change::Program, number, &bytes);
 }
 
 // PROGRAM in page `number`, cut by the supply.
-pub fn cut_program_page(values: &mut [u8], masks: &mut [u8], number: usize, bytes: [u8; 256])
+pub fn cut_program_page(values: &mut [u8], masks: &mut [u8], number: usize, bytes: [u8; FLASH_PAGE])
     ensures { λ _. ⌜ imageOf (now (values .exit)) (now (masks .exit)) ≡ cutProgramPage number bytes (imageOf (now (values .entry)) (now (masks .entry))) ⌝ }
 {
     change_page(values, masks, Change::CutProgram, number, &bytes);
@@ -55,7 +77,7 @@ pub fn store_page(
     number: usize,
     first: usize,
     count: usize,
-    bytes: [u8; 64],
+    bytes: [u8; EEPROM_PAGE],
 )
     ensures { λ _. ⌜ imageOf (now (values .exit)) (now (masks .exit)) ≡ storePage number first count bytes (imageOf (now (values .entry)) (now (masks .entry))) ⌝ }
 {
@@ -81,25 +103,25 @@ pub fn cut_store_page(
         count: count,
     };
     // No data is put in: only the page's length counts.
-    let page = [0u8; 64];
+    let page = [0u8; EEPROM_PAGE];
     change_page(values, masks, how, number, &page);
 }
 
 // Was place q of an EEPROM page sent, in the page's own rolling?
 fn sent(first: usize, count: usize, q: usize) -> bool
-    requires { ⌜ q < 256 ⌝ }
-    ensures { λ r. ⌜ r ≡ isSent first count q ⌝ }
+    requires { ⌜ q < flashPage ⌝ }
+    ensures { λ r. ⌜ r ≡ sentPlace eepromPage first count q ⌝ }
 {
     if first < EEPROM_PAGE {
         (q + (EEPROM_PAGE - first)) % EEPROM_PAGE < count
     } else {
-        false
+        q % EEPROM_PAGE < count
     }
 }
 
 // The kept byte c at place q of a page whose data there is d, after the cycle.
 fn changed(how: Change, q: usize, c: Cell, d: u8) -> Cell
-    requires { ⌜ q < 256 ⌝ }
+    requires { ⌜ q < flashPage ⌝ }
     ensures { λ r. ⌜ r ≡ changedCell how q c d ⌝ }
 {
     match how {
@@ -124,7 +146,7 @@ fn changed(how: Change, q: usize, c: Cell, d: u8) -> Cell
 
 // A page of an image, if the image fits and has that page. The page is as long as its data.
 fn change_page(values: &mut [u8], masks: &mut [u8], how: Change, number: usize, bytes: &[u8])
-    requires { ⌜ (0 < length (now bytes)) × (length (now bytes) ≤ 256) ⌝ }
+    requires { ⌜ (0 < length (now bytes)) × (length (now bytes) ≤ flashPage) ⌝ }
     ensures { λ _. ⌜ imageOf (now (values .exit)) (now (masks .exit)) ≡ onPage (length (now (bytes .entry))) number (changedPlace how (now (bytes .entry))) (imageOf (now (values .entry)) (now (masks .entry))) ⌝ }
 {
     if values.len() / bytes.len() <= number {
@@ -138,7 +160,7 @@ fn change_page(values: &mut [u8], masks: &mut [u8], how: Change, number: usize, 
 
 // The places of the page, one after the other.
 fn change_places(values: &mut [u8], masks: &mut [u8], how: Change, number: usize, bytes: &[u8])
-    requires { ⌜ (length (now masks) ≡ length (now values)) × (0 < length (now bytes)) × (length (now bytes) ≤ 256) × (length (now bytes) * number + length (now bytes) ≤ length (now values)) ⌝ }
+    requires { ⌜ (length (now masks) ≡ length (now values)) × (0 < length (now bytes)) × (length (now bytes) ≤ flashPage) × (length (now bytes) * number + length (now bytes) ≤ length (now values)) ⌝ }
     ensures { λ _. ⌜ imageOf (now (values .exit)) (now (masks .exit)) ≡ eachPlace (inPage (length (now (bytes .entry))) number (changedPlace how (now (bytes .entry)))) (imageOf (now (values .entry)) (now (masks .entry))) ⌝ }
 {
     let base = bytes.len() * number;

@@ -1,12 +1,8 @@
 // The page view: a page of the flash image or of the EEPROM image as a part of it, not a copy.
 ghost use mathlib.Core.Path.{_≡_};
-ghost use Rattle.image.specs.Images.{perChip, keptBytes, pageSize};
+ghost use Rattle.image.specs.Images.{perChip, pageSize};
 ghost use Rattle.image.specs.View.{canShow, viewPlace, viewLength, pageShown};
-
-pub enum Chip {
-    Flash,
-    Eeprom,
-}
+use record::Chip;
 
 // Page `number` of the image asked for. The empty part is refusal 11: no page is empty.
 pub fn view<'a>(flash: &'a [u8], eeprom: &'a [u8], chip: Chip, number: usize) -> &'a [u8]
@@ -46,23 +42,13 @@ pub fn view_length(flash: usize, eeprom: usize, chip: Chip, number: usize) -> us
 fn can_show(flash: usize, eeprom: usize, chip: Chip, number: usize) -> bool
     ensures { λ r. ⌜ r ≡ canShow (perChip flash eeprom) chip number ⌝ }
 {
-    if flash != kept_bytes(Chip::Flash) {
+    if flash != crate::kept_bytes(Chip::Flash) {
         return false;
     }
-    if eeprom != kept_bytes(Chip::Eeprom) {
+    if eeprom != crate::kept_bytes(Chip::Eeprom) {
         return false;
     }
-    number < kept_bytes(chip) / page_size(chip)
-}
-
-// How many bytes are kept of a chip: what refusals 1 and 11 ask for.
-pub fn kept_bytes(chip: Chip) -> usize
-    ensures { λ r. ⌜ r ≡ keptBytes chip ⌝ }
-{
-    match chip {
-        Chip::Flash => page::FLASH_SECTOR as usize,
-        Chip::Eeprom => page::EEPROM_SIZE as usize,
-    }
+    number < crate::kept_bytes(chip) / page_size(chip)
 }
 
 fn page_size(chip: Chip) -> usize

@@ -1,10 +1,10 @@
 -- Flags that say whether something holds.
-use mathlib.Core.Path.{_≡_, refl, sym, ap, _∙_}
+use mathlib.Core.Path.{_≡_, refl, sym}
 use mathlib.Core.Bool.{Bool, true, false, not, Bool·beq}
 use Prim.Native.Nat.{ℕ}
 use lib.Dec.{eqb}
 use borrow.Author.Tests.{eqb-true, eqb-false, not-true, not-false}
-use Rattle.law.specs.Choice.{pick, true-not-false}
+use Rattle.law.specs.Choice.{true-not-false}
 
 -- the flag says whether P holds
 pub record Decides (b : Bool) (P : Type 0) : Type 0 where

@@ -1,6 +1,7 @@
 -- Laws that every floor cites; no domain.
 pub mod Choice
 pub mod Deciding
+pub mod Lists
 pub mod Numbers
 pub mod Places
 pub mod Rest

@@ -3,7 +3,6 @@ use Prim.Native.Nat.{ℕ}
 use mathlib.Core.Bool.{Bool, true, false}
 use mathlib.Core.Path.{_≡_, refl, sym, ap, _∙_}
 use lib.Dec.{eqb}
-use Rattle.law.specs.Choice.{pick}
 use Rattle.law.specs.Deciding.{Decides, decides-as}
 use Rattle.law.specs.declared.Numbers.{Numbers}
 

@@ -1,5 +1,5 @@
 -- A list changed place by place, and the loop that does it from the front: after n turns the first n places are done.
-use mathlib.Core.Path.{_≡_, refl, sym, ap, ap₂, _∙_, subst}
+use mathlib.Core.Path.{_≡_, refl, sym, ap, ap₂, _∙_}
 use mathlib.Core.List.{List, [], _∷_}
 use Prim.Native.Nat.{ℕ, zero, suc, _+_, _≤_, _<_}
 use native.Mathlib.Nat.{not-suc-le-zero, le-of-suc-le-suc, add-zero, add-suc, suc-add, zero-add}
@@ -18,14 +18,6 @@ doneFrom f i (suc n) (x ∷ xs) = f i x ∷ doneFrom f (suc i) n xs
 
 abbrev pub done : (ℕ → ℕ → ℕ) → ℕ → List ℕ → List ℕ
 done f n xs = doneFrom f 0 n xs
-
-length-from : (f : ℕ → ℕ → ℕ) (i n : ℕ) (xs : List ℕ) → length (doneFrom f i n xs) ≡ length xs
-length-from f i zero xs = refl
-length-from f i (suc n) [] = refl
-length-from f i (suc n) (x ∷ xs) = ap suc (length-from f (suc i) n xs)
-
-pub length-done : (f : ℕ → ℕ → ℕ) (n : ℕ) (xs : List ℕ) → length (done f n xs) ≡ length xs
-length-done f n xs = length-from f 0 n xs
 
 getD-from : (f : ℕ → ℕ → ℕ) (i n : ℕ) (xs : List ℕ) → getD (doneFrom f i n xs) n 0 ≡ getD xs n 0
 getD-from f i zero xs = refl

@@ -28,7 +28,3 @@ stop-from f i (suc n) (x ∷ xs) same = ap (λ (l : List ℕ). f i x ∷ l) (sto
 -- nothing changes from n on: with the first n places all are done
 pub stop : (f : ℕ → ℕ → ℕ) (n : ℕ) (xs : List ℕ) → ((k x : ℕ) → n ≤ k → f k x ≡ x) → done f n xs ≡ byPlace f 0 xs
 stop f n xs same = stop-from f 0 n xs (λ k x h. same k x (omega arith))
-
--- nothing changes anywhere
-pub byPlace-same : (f : ℕ → ℕ → ℕ) (xs : List ℕ) → ((k x : ℕ) → f k x ≡ x) → byPlace f 0 xs ≡ xs
-byPlace-same f xs same = same-from f 0 xs (λ k x h. same k x)

@@ -3,12 +3,12 @@ use Prim.Native.Nat.{ℕ, _+_}
 use native.Mathlib.Omega.{arith}
 use native.Mathlib.Nat.{add-assoc}
 use mathlib.Core.Path.{_≡_, sym, ap, subst, _∙_}
-use mathlib.Core.List.{List, [], _∷_, _++_}
+use mathlib.Core.List.{List, _∷_, _++_}
 use lib.ListN.{length, length-append}
 use Rattle.field.specs.Reads.{Stands}
 use Rattle.field.specs.Spelling.{putAll}
 use Rattle.field.specs.declared.spelling.Spelling.{Spelling}
-use Rattle.field.proofs.Reading.{Got, stands-getD, stands-left, stands-right, stands-join}
+use Rattle.field.proofs.Reading.{stands-getD, stands-left, stands-right, stands-join}
 use Rattle.field.proofs.Answers.{GotWord, NoWord, No}
 use Rattle.field.proofs.SpellingLaws.{put-then}
 

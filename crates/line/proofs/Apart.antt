@@ -1,14 +1,12 @@
 -- The constructors of each answer are apart, and a value's parts are told from it.
 use Prim.Native.Nat.{ℕ}
 use mathlib.Core.Bool.{Bool}
-use mathlib.Core.Path.{_≡_}
 use Rattle.record.specs.declared.FlashEvent.{FlashEvent}
 use Rattle.record.specs.declared.EepromEvent.{EepromEvent}
 use Rattle.record.specs.declared.LineEvent.{LineEvent}
 use Rattle.record.specs.declared.Event.{Event}
 use Rattle.record.specs.declared.Record.{Record}
 use Rattle.record.specs.declared.Board.{Board}
-use Rattle.field.specs.declared.Cursor.{Cursor}
 use Rattle.field.proofs.Reading.{Tells}
 use Rattle.field.proofs.Answers.{zero-one, at-same, both-same}
 use Rattle.line.specs.declared.channel_f.ReadPair.{ReadPair}

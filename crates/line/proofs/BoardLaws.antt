@@ -1,23 +1,23 @@
 -- The board's line.
-use Prim.Native.Nat.{ℕ, _+_, _/_, _%_, _≤_, _<_}
+use Prim.Native.Nat.{ℕ}
 use native.Mathlib.Omega.{arith}
 use mathlib.Core.Path.{_≡_, refl, sym, ap, subst, _∙_}
 use mathlib.Core.List.{List, [], _∷_, _++_, append-nil}
-use lib.ListN.{length}
 use Rattle.record.specs.declared.Board.{Board}
+use Rattle.record.specs.Status.{StatusOk}
 use Rattle.field.specs.declared.spelling.Spelling.{Spelling}
 use Rattle.field.specs.declared.hex.ReadHex.{ReadHex}
 use Rattle.field.specs.Decimal.{decimal}
 use Rattle.field.specs.Hex.{hexField}
-use Rattle.field.specs.Digit.{digitField, DigitOk}
-use Rattle.field.specs.Reads.{Stands, Reads}
+use Rattle.field.specs.Digit.{digitField}
+use Rattle.field.specs.Reads.{Stands}
 use Rattle.field.specs.Spelling.{noBytes, putAll}
 use Rattle.field.proofs.Reading.{Got, none, one, seq-none, seq-then, seq-end}
 use Rattle.field.proofs.Answers.{both-same, GotHex, NoHex, GotWord, NoWord, GotDigit, NoDigit}
 use Rattle.field.proofs.DecimalLaws.{decimal-digit}
 use Rattle.line.specs.declared.boards.ReadPlaces.{ReadPlaces}
 use Rattle.line.specs.declared.boards.ReadBoard.{ReadBoard}
-use Rattle.line.specs.Boards.{StatusOk, ReadsStatus, spelledPlaces, PlacesOk, ReadsPlaces, spelledBoard, BoardOk, ReadsBoard}
+use Rattle.line.specs.Boards.{ReadsStatus, spelledPlaces, PlacesOk, ReadsPlaces, spelledBoard, BoardOk, ReadsBoard}
 use Rattle.line.proofs.After.{put-on}
 
 -- ---- the status
@@ -25,11 +25,11 @@ module _ {text : List ℕ} {at : ℕ} where
   pub status-1 : NoHex text at → ReadsStatus text at ReadHex.Bad
   status-1 n = none (λ x o s. n x (o .0) s)
 
-  pub status-2 : {x p : ℕ} → GotHex text at x p → ((x % 4 ≡ 0) → (x / 16 % 8 ≡ 0) → ⊥) → ReadsStatus text at ReadHex.Bad
-  status-2 g n = none (λ y o s. let e = g .only y (o .0) s in n (subst (λ (k : ℕ). k % 4 ≡ 0) (sym e) (o .1)) (subst (λ (k : ℕ). k / 16 % 8 ≡ 0) (sym e) (o .2)))
+  pub status-2 : {x p : ℕ} → GotHex text at x p → (StatusOk x → ⊥) → ReadsStatus text at ReadHex.Bad
+  status-2 g n = none (λ y o s. n (subst StatusOk (sym (g .only y (o .0) s)) o))
 
-  pub status-3 : {x p : ℕ} → GotHex text at x p → x % 4 ≡ 0 → x / 16 % 8 ≡ 0 → ReadsStatus text at (ReadHex.Value x (record { at = p }))
-  status-3 {x} {p} g a b = one x p (g .ok, a, b) (g .stands) (g .next) (λ y o s. g .only y (o .0) s)
+  pub status-3 : {x p : ℕ} → GotHex text at x p → StatusOk x → ReadsStatus text at (ReadHex.Value x (record { at = p }))
+  status-3 {x} {p} g a = one x p a (g .stands) (g .next) (λ y o s. g .only y (o .0) s)
 
 module _ {text : List ℕ} {at : ℕ} where
   pub places-1 : NoDigit 1 4 text at → ReadsPlaces text at ReadPlaces.Bad

@@ -1,8 +1,7 @@
 -- The events of channel E.
-use Prim.Native.Nat.{ℕ, suc, zero, _+_, _/_, _%_, _<_}
-use native.Mathlib.Omega.{arith}
+use Prim.Native.Nat.{ℕ, _+_, _<_}
 use mathlib.Core.Bool.{Bool, true, false}
-use mathlib.Core.Path.{_≡_, refl, sym, ap, ap₂, subst, _∙_}
+use mathlib.Core.Path.{_≡_, refl, sym, ap}
 use mathlib.Core.List.{List, [], _∷_, _++_, append-nil}
 use lib.Dec.{eqb}
 use lib.ListN.{length, getD}
@@ -10,16 +9,16 @@ use Rattle.law.specs.Choice.{pick}
 use Rattle.record.specs.declared.EepromEvent.{EepromEvent}
 use Rattle.record.specs.declared.EepromEvent.the-variants.{Start, Byte, Cut, Stop, End}
 use Rattle.field.specs.declared.spelling.Spelling.{Spelling}
-use Rattle.field.specs.Hex.{hexField, hexDigit}
-use Rattle.field.specs.Reads.{Stands, Reads}
+use Rattle.field.specs.Hex.{hexField}
+use Rattle.field.specs.Reads.{Stands}
 use Rattle.field.specs.Spelling.{putAll}
-use Rattle.field.proofs.Reading.{Got, stands-getD, stands-left, none, one, by-inverse, seq-none, seq-then, seq-end}
+use Rattle.field.proofs.Reading.{Got, stands-left, none, one, by-inverse, seq-none, seq-then, seq-end}
 use Rattle.field.proofs.Answers.{both-same, GotHex, NoHex, GotWord, NoWord, No}
 use Rattle.field.proofs.HexLaws.{unhex, unhex-is}
 use Rattle.line.specs.declared.channel_e.ReadBit.{ReadBit}
 use Rattle.line.specs.declared.channel_e.ReadData.{ReadData}
 use Rattle.line.specs.declared.channel_e.ReadEeprom.{ReadEeprom}
-use Rattle.line.specs.ChannelE.{bitDigit, spelledBit, ReadsBit, spelledData, DataOk, ReadsData, spelledEeprom, EepromOk, ReadsEeprom}
+use Rattle.line.specs.ChannelE.{spelledBit, ReadsBit, spelledData, DataOk, ReadsData, spelledEeprom, EepromOk, ReadsEeprom}
 use Rattle.line.proofs.After.{after, past, next-after, put-on}
 
 -- ---- the acknowledge bit

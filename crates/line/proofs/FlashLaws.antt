@@ -1,18 +1,17 @@
 -- The events of channel F.
-use Prim.Native.Nat.{ℕ, _+_, _/_, _%_, _<_}
-use native.Mathlib.Nat.{add-assoc}
-use mathlib.Core.Path.{_≡_, refl, sym, ap, ap₂, subst, _∙_}
+use Prim.Native.Nat.{ℕ, _+_, _<_}
+use mathlib.Core.Path.{_≡_, refl, ap₂}
 use mathlib.Core.List.{List, [], _∷_, _++_}
 use lib.Dec.{eqb}
-use lib.ListN.{length, getD, length-append}
+use lib.ListN.{length, getD}
 use Rattle.law.specs.Choice.{pick}
 use Rattle.record.specs.declared.FlashEvent.{FlashEvent}
 use Rattle.record.specs.declared.FlashEvent.the-variants.{Select, Byte, Cut, Deselect, End}
 use Rattle.field.specs.declared.spelling.Spelling.{Spelling}
-use Rattle.field.specs.Hex.{hexField, hexDigit}
-use Rattle.field.specs.Reads.{Stands, Reads}
+use Rattle.field.specs.Hex.{hexField}
+use Rattle.field.specs.Reads.{Stands}
 use Rattle.field.specs.Spelling.{putAll}
-use Rattle.field.proofs.Reading.{Got, stands-left, stands-right, stands-join, none, one, by-inverse, seq-none, seq-then, seq-end}
+use Rattle.field.proofs.Reading.{Got, stands-left, none, one, by-inverse, seq-none, seq-then, seq-end}
 use Rattle.field.proofs.Answers.{both-same, GotHex, NoHex, GotWord, NoWord}
 use Rattle.field.proofs.HexLaws.{unhex, unhex-is}
 use Rattle.line.specs.declared.channel_f.ReadPair.{ReadPair}

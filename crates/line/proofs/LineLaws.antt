@@ -7,7 +7,7 @@ use lib.ListN.{length, getD}
 use Rattle.law.specs.Choice.{pick}
 use Rattle.record.specs.declared.LineEvent.{LineEvent}
 use Rattle.record.specs.declared.LineEvent.the-variants.{SupplyOn, SupplyOff, LockOn, LockOff}
-use Rattle.field.specs.Reads.{Stands, Reads}
+use Rattle.field.specs.Reads.{Stands}
 use Rattle.field.proofs.Reading.{none, one, by-inverse}
 use Rattle.field.proofs.Answers.{NoWord}
 use Rattle.line.specs.declared.channel_l.ReadLine.{ReadLine}

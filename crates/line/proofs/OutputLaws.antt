@@ -1,10 +1,10 @@
 -- A line that was put together is copied out; how long lines are.
-use Prim.Native.Nat.{ℕ, suc, zero, _+_, _≤_, _<_}
+use Prim.Native.Nat.{ℕ, suc, _+_, _≤_, _<_}
 use native.Mathlib.Omega.{arith}
 use native.Mathlib.Numerals.{add-one}
 use mathlib.Core.Path.{_≡_, refl, sym, ap, subst, _∙_}
 use mathlib.Core.Bool.{true, false}
-use mathlib.Core.List.{List, [], _∷_, _++_}
+use mathlib.Core.List.{List, [], _++_}
 use lib.ListN.{length, take, drop, getD, set, length-append}
 use lib.Seq.{take-suc, drop-cons, set-at, append-snoc, length-take-le}
 use borrow.Author.Tests.{lt-ltb, le-ltb}
@@ -15,10 +15,11 @@ use Rattle.record.specs.declared.Event.{Event}
 use Rattle.record.specs.declared.Record.{Record}
 use Rattle.record.specs.declared.Board.{Board}
 use Rattle.field.specs.declared.spelling.Spelling.{Spelling}
-use Rattle.field.specs.Decimal.{largest, decimal, decimalTo}
+use Rattle.field.specs.Decimal.{largest, decimal, decimalField}
+use Rattle.field.specs.Ends.{tab}
 use Rattle.field.specs.Hex.{hexField}
 use Rattle.field.specs.Digit.{digitField}
-use Rattle.field.specs.Spelling.{held, room, noBytes, putAll}
+use Rattle.field.specs.Spelling.{room, noBytes, putAll}
 use Rattle.field.proofs.SpellingLaws.{Holds, holds-all, digits-count}
 use Rattle.line.specs.declared.output.Written.{Written}
 use Rattle.line.specs.ChannelF.{spelledFlash}
@@ -88,8 +89,8 @@ event-length (Event.Eeprom e) = omega (arith, eeprom-length e)
 event-length (Event.Line e) = omega (arith, line-length e)
 
 parts : (r : Record) → length (spelled r) ≡ length (decimal (r .stamp)) + 1 + length (spelledEvent (r .event))
-unfolding spelled decimalTo
-parts r = length-append (decimalTo 9 (r .stamp)) (spelledEvent (r .event)) ∙ ap (λ (k : ℕ). k + length (spelledEvent (r .event))) (length-append (decimal (r .stamp)) (9 ∷ []))
+unfolding spelled decimalField
+parts r = length-append (decimalField (r .stamp)) (spelledEvent (r .event)) ∙ ap (λ (k : ℕ). k + length (spelledEvent (r .event))) (length-append (decimal (r .stamp)) tab)
 
 -- a record's line has 7 to 21 bytes
 pub spelled-length-min : (r : Record) → r .stamp ≤ largest → 7 ≤ length (spelled r)

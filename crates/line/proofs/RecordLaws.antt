@@ -12,8 +12,9 @@ use Rattle.record.specs.declared.Event.{Event}
 use Rattle.record.specs.declared.Event.the-variants.{Flash, Eeprom, Line}
 use Rattle.record.specs.declared.Record.{Record}
 use Rattle.field.specs.declared.spelling.Spelling.{Spelling}
-use Rattle.field.specs.Decimal.{largest, decimal, decimalTo}
-use Rattle.field.specs.Reads.{Stands, Reads}
+use Rattle.field.specs.Decimal.{largest, decimal, decimalField}
+use Rattle.field.specs.Ends.{tab}
+use Rattle.field.specs.Reads.{Stands}
 use Rattle.field.specs.Spelling.{noBytes, putAll}
 use Rattle.field.proofs.Reading.{Got, none, one, by-inverse, seq-none, seq-then, seq-end}
 use Rattle.field.proofs.Answers.{GotWord, No}
@@ -22,7 +23,7 @@ use Rattle.line.specs.declared.records.ReadRecord.{ReadRecord}
 use Rattle.line.specs.ChannelF.{spelledFlash, FlashOk}
 use Rattle.line.specs.ChannelE.{spelledEeprom, EepromOk}
 use Rattle.line.specs.ChannelL.{spelledLine}
-use Rattle.line.specs.Records.{spelledEvent, spelled, EventOk, RecordOk, ReadsEvent, ReadsRecord}
+use Rattle.line.specs.Records.{spelledEvent, spelled, EventOk, ReadsEvent, ReadsRecord}
 use Rattle.line.proofs.After.{after, next-after, put-on}
 use Rattle.line.proofs.FlashLaws.{flashAt, flash-law}
 use Rattle.line.proofs.EepromLaws.{eepromAt, eeprom-law}
@@ -67,11 +68,11 @@ module _ {text : List ℕ} {at : ℕ} where
 
 -- ---- the record
 module _ {text : List ℕ} {at : ℕ} where
-  pub record-1 : ((n : ℕ) → n ≤ largest → Stands text at (decimalTo 9 n) → ⊥) → ReadsRecord text at ReadRecord.Bad
+  pub record-1 : ((n : ℕ) → n ≤ largest → Stands text at (decimalField n) → ⊥) → ReadsRecord text at ReadRecord.Bad
   unfolding spelled
   record-1 n = seq-none (λ x. x .stamp) (λ x. spelledEvent (x .event)) (λ x. refl) (λ x o. o .0) n
 
-  module _ {n p : ℕ} (g : Got (decimalTo 9) (λ k. k ≤ largest) text at n p) where
+  module _ {n p : ℕ} (g : Got decimalField (λ k. k ≤ largest) text at n p) where
     pub record-2 : No spelledEvent EventOk text p → ReadsRecord text at ReadRecord.Bad
     unfolding spelled
     record-2 h = seq-then (λ x. x .stamp) (λ x. spelledEvent (x .event)) (λ x. refl) (λ x o. o .0) g
@@ -98,8 +99,8 @@ module _ (s : Spelling) {s1 r : Spelling} where
   put-event-line e a b = put-on s (76 ∷ 9 ∷ []) (spelledLine e) a b
 
 -- a record's line is put
-pub put-record : (x : Record) {s s1 s2 r : Spelling} → s ≡ noBytes → s1 ≡ putAll s (decimal (x .stamp)) → s2 ≡ putAll s1 (9 ∷ []) → r ≡ putAll s2 (spelledEvent (x .event)) → r ≡ putAll noBytes (spelled x)
-unfolding spelled decimalTo
+pub put-record : (x : Record) {s s1 s2 r : Spelling} → s ≡ noBytes → s1 ≡ putAll s (decimal (x .stamp)) → s2 ≡ putAll s1 tab → r ≡ putAll s2 (spelledEvent (x .event)) → r ≡ putAll noBytes (spelled x)
+unfolding spelled decimalField
 put-record x {s} {s1} {s2} n e f g =
-    put-on s (decimal (x .stamp) ++ (9 ∷ [])) (spelledEvent (x .event)) (put-on s (decimal (x .stamp)) (9 ∷ []) e f) g
+    put-on s (decimal (x .stamp) ++ tab) (spelledEvent (x .event)) (put-on s (decimal (x .stamp)) tab e f) g
     ∙ ap (λ (k : Spelling). putAll k (spelled x)) n

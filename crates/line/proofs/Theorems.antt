@@ -2,20 +2,19 @@
 use Prim.Native.Nat.{ℕ, _+_, _-_, _%_, _/_, _≤_, _<_}
 use native.Mathlib.Omega.{arith}
 use native.Mathlib.Nat.{add-sub-cancel-left}
-use mathlib.Core.Path.{_≡_, refl, sym, ap, subst, _∙_}
+use mathlib.Core.Path.{_≡_, refl, sym, subst, _∙_}
 use mathlib.Core.Logic.{_⊎_, inl, inr, ⊎-elim}
-use mathlib.Core.List.{List, [], _∷_, _++_}
+use mathlib.Core.List.{List, _++_}
 use lib.ListN.{length, drop, getD}
 use lib.Dec.{eqb}
 use borrow.Author.Tests.{eqb-true, eqb-false}
 use Rattle.law.specs.Choice.{split, lt-or-le}
 use Rattle.record.specs.declared.Record.{Record}
 use Rattle.record.specs.declared.Board.{Board}
-use Rattle.field.specs.declared.Cursor.{Cursor}
-use Rattle.field.specs.Decimal.{decimalTo}
-use Rattle.field.specs.Hex.{hexField, hexDigit}
+use Rattle.field.specs.Decimal.{decimalField}
+use Rattle.field.specs.Hex.{hexField}
 use Rattle.field.specs.Digit.{digitField}
-use Rattle.field.specs.Reads.{Stands, Reads}
+use Rattle.field.specs.Reads.{Stands}
 use Rattle.field.proofs.Reading.{stands-left, stands-right, by-inverse, determined}
 use Rattle.field.proofs.Answers.{tells-decimal}
 use Rattle.field.proofs.DecimalLaws.{reads-decimal}
@@ -23,9 +22,9 @@ use Rattle.field.proofs.HexLaws.{unhex, unhex-is}
 use Rattle.line.specs.declared.records.ReadRecord.{ReadRecord}
 use Rattle.line.specs.declared.boards.ReadBoard.{ReadBoard}
 use Rattle.line.specs.declared.output.Written.{Written}
-use Rattle.line.specs.Output.{onPaper, Wrote}
+use Rattle.line.specs.Output.{Wrote}
 use Rattle.line.specs.Records.{spelledEvent, spelled, EventOk, RecordOk, ReadsRecord}
-use Rattle.line.specs.Boards.{spelledBoard, spelledPlaces, StatusOk, BoardOk, ReadsBoard, WroteBoard}
+use Rattle.line.specs.Boards.{spelledBoard, spelledPlaces, BoardOk, ReadsBoard, WroteBoard}
 use Rattle.line.proofs.Apart.{tells-record, tells-board}
 use Rattle.line.proofs.RecordLaws.{eventAt, event-law}
 use Rattle.line.proofs.Whole.{paper-one, wrote-determined, spelled-if-accepted, accepted-if-spelled, reads-back, same-bytes}
@@ -42,14 +41,14 @@ record-same text at r r′ o o′ s s′ = λ i. record { stamp = stamps i; even
   where
     stamps : r .stamp ≡ r′ .stamp
     stamps =
-        let d = reads-decimal 9 (omega arith) text at in
+        let d = reads-decimal text at in
         tells-decimal .same _ _ _ _ (sym (d .found (r .stamp) (o .0) (stands-left text _ (spelledEvent (r .event)) at s)) ∙ d .found (r′ .stamp) (o′ .0) (stands-left text _ (spelledEvent (r′ .event)) at s′)) .0
 
     events : r .event ≡ r′ .event
     events =
-        by-inverse spelledEvent EventOk eventAt event-law (r .event) (o .1) (stands-right text (decimalTo 9 (r .stamp)) (spelledEvent (r .event)) at s)
+        by-inverse spelledEvent EventOk eventAt event-law (r .event) (o .1) (stands-right text (decimalField (r .stamp)) (spelledEvent (r .event)) at s)
         (r′ .event) (o′ .1)
-        (subst (λ (n : ℕ). Stands text (at + length (decimalTo 9 n)) (spelledEvent (r′ .event))) (sym stamps) (stands-right text (decimalTo 9 (r′ .stamp)) (spelledEvent (r′ .event)) at s′))
+        (subst (λ (n : ℕ). Stands text (at + length (decimalField n)) (spelledEvent (r′ .event))) (sym stamps) (stands-right text (decimalField (r′ .stamp)) (spelledEvent (r′ .event)) at s′))
 
 -- a line, whatever comes after it, spells one record: the spelling is one-to-one
 pub one-record : (r r′ : Record) (rest rest′ : List ℕ) → RecordOk r → RecordOk r′ → spelled r ++ rest ≡ spelled r′ ++ rest′ → r ≡ r′
@@ -77,10 +76,10 @@ pub board-determined : (text : List ℕ) (at : ℕ) (r r′ : ReadBoard) → Rea
 board-determined text at = determined tells-board
 
 -- the board that a line spells, found from its bytes
-boardAt : List ℕ → Board
+pub boardAt : List ℕ → Board
 boardAt l = record { status = unhex (getD l 6 0) (getD l 7 0); sector = getD l 9 0 - 48; address = getD l 11 0 - 48 }
 
-board-law : (b : Board) → BoardOk b → (rest : List ℕ) → boardAt (spelledBoard b ++ rest) ≡ b
+pub board-law : (b : Board) → BoardOk b → (rest : List ℕ) → boardAt (spelledBoard b ++ rest) ≡ b
 unfolding boardAt spelledBoard spelledPlaces hexField digitField
 board-law b o rest = λ i. record { status = unhex-is (b .status) (o .0 .0) i; sector = add-sub-cancel-left 48 (b .sector) i; address = add-sub-cancel-left 48 (b .address) i }
 
@@ -105,11 +104,11 @@ pub board-same-bytes : (line old new : List ℕ) (a : ReadBoard) (b : Board) (w 
     → BoardOk b → WroteBoard b old new w → length line ≤ length old → new ≡ line ++ drop (length line) old
 board-same-bytes line old new a b w d e o p h = same-bytes tells-board line old new a b w d e (p .in-range o) h
 
--- a board is in range or not
-abbrev Known : Type 0 → Type 0
+-- it holds or it does not
+abbrev pub Known : Type 0 → Type 0
 Known P = P ⊎ (P → ⊥)
 
-and-known : {P Q : Type 0} → Known P → Known Q → Known (P × Q)
+pub and-known : {P Q : Type 0} → Known P → Known Q → Known (P × Q)
 and-known p q = ⊎-elim (λ x. ⊎-elim (λ y. inl (x, y)) (λ n. inr (λ z. n (z .1))) q) (λ n. inr (λ z. n (z .0))) p
 
 all-known : {P Q R : Type 0} → Known P → Known Q → Known R → Known (P × Q × R)
@@ -121,10 +120,11 @@ eq-known m n = split (eqb m n) (λ e. inl (eqb-true m n e)) (λ e. inr (eqb-fals
 le-known : (m n : ℕ) → Known (m ≤ n)
 le-known m n = ⊎-elim (λ (h : n < m). inr (λ (l : m ≤ n). omega arith)) inl (lt-or-le n m)
 
-lt-known : (m n : ℕ) → Known (m < n)
+pub lt-known : (m n : ℕ) → Known (m < n)
 lt-known m n = ⊎-elim inl (λ (h : n ≤ m). inr (λ (l : m < n). omega arith)) (lt-or-le m n)
 
-pub board-known : (b : Board) → BoardOk b ⊎ (BoardOk b → ⊥)
+-- a board is in range or not
+pub board-known : (b : Board) → Known (BoardOk b)
 board-known b =
     and-known (all-known (lt-known (b .status) 256) (eq-known (b .status % 4) 0) (eq-known (b .status / 16 % 8) 0))
     (and-known (all-known (le-known (b .sector) 9) (le-known 1 (b .sector)) (le-known (b .sector) 4))

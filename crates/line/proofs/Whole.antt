@@ -1,19 +1,16 @@
 -- A whole line is accepted exactly where it is spelled, whatever is read: stated once for every reader.
-use Prim.Native.Nat.{ℕ, zero, suc, _+_, _≤_}
+use Prim.Native.Nat.{ℕ, _+_, _≤_}
 use native.Mathlib.Omega.{arith}
 use native.Mathlib.Nat.{zero-add}
 use mathlib.Core.Path.{_≡_, refl, sym, ap, _∙_}
-use mathlib.Core.Bool.{true, false}
 use mathlib.Core.Logic.{⊎-elim}
 use mathlib.Core.List.{List, [], _∷_, _++_, append-nil}
 use lib.Dec.{ltb}
-use lib.ListN.{length, take, drop, length-append}
-use lib.Seq.{take-append-le, take-all}
-use borrow.Author.Tests.{le-ltb, ltb-false}
-use Rattle.law.specs.Choice.{pick, pick-says}
-use Rattle.field.specs.Reads.{Stands, Reads}
-use Rattle.field.proofs.Reading.{Tells, Got, got-one}
-use Rattle.field.proofs.Answers.{zero-one}
+use lib.ListN.{length, drop, length-append}
+use borrow.Author.Tests.{le-ltb}
+use Rattle.law.specs.Choice.{pick-says}
+use Rattle.field.specs.Reads.{Reads}
+use Rattle.field.proofs.Reading.{Tells, got-one}
 use Rattle.line.specs.declared.output.Written.{Written}
 use Rattle.line.specs.Output.{onPaper, Wrote}
 

@@ -1,9 +1,10 @@
 -- The board's line (document 01, 'The trace').
-use Prim.Native.Nat.{ℕ, _/_, _%_, _≤_, _<_}
+use Prim.Native.Nat.{ℕ}
 use mathlib.Core.Path.{_≡_}
-use mathlib.Core.List.{List, [], _∷_, _++_}
+use mathlib.Core.List.{List, _++_}
 use Rattle.record.specs.declared.Board.{Board}
-use Rattle.field.specs.declared.Cursor.{Cursor}
+use Rattle.record.specs.Status.{StatusOk}
+use Rattle.field.specs.Ends.{tab, lf}
 use Rattle.field.specs.declared.hex.ReadHex.{ReadHex}
 use Rattle.field.specs.Hex.{hexField}
 use Rattle.field.specs.Digit.{digitField, DigitOk}
@@ -11,12 +12,8 @@ use Rattle.field.specs.Reads.{Reads}
 use Rattle.line.specs.declared.boards.ReadPlaces.{ReadPlaces}
 use Rattle.line.specs.declared.boards.ReadBoard.{ReadBoard}
 use Rattle.line.specs.declared.output.Written.{Written}
-use Rattle.line.specs.Words.{tab, lf, wordBoard}
+use Rattle.line.specs.Words.{wordBoard}
 use Rattle.line.specs.Output.{onPaper, Wrote}
-
--- only bits 7, 3, 2 may be set: bits 1 and 0 are clear, and bits 6 to 4
-abbrev pub StatusOk : ℕ → Type 0
-StatusOk x = (x < 256) × (x % 4 ≡ 0) × (x / 16 % 8 ≡ 0)
 
 abbrev pub ReadsStatus : List ℕ → ℕ → ReadHex → Type 0
 ReadsStatus = Reads hexField StatusOk (λ n p. ReadHex.Value n (record { at = p })) ReadHex.Bad

@@ -4,13 +4,13 @@ use mathlib.Core.Bool.{Bool, true, false}
 use mathlib.Core.List.{List, [], _∷_, _++_}
 use Rattle.record.specs.declared.EepromEvent.{EepromEvent}
 use Rattle.record.specs.declared.EepromEvent.the-variants.{Start, Byte, Cut, Stop, End}
-use Rattle.field.specs.declared.Cursor.{Cursor}
+use Rattle.field.specs.Ends.{tab, lf}
 use Rattle.field.specs.Hex.{hexField}
 use Rattle.field.specs.Reads.{Reads}
 use Rattle.line.specs.declared.channel_e.ReadBit.{ReadBit}
 use Rattle.line.specs.declared.channel_e.ReadData.{ReadData}
 use Rattle.line.specs.declared.channel_e.ReadEeprom.{ReadEeprom}
-use Rattle.line.specs.Words.{tab, lf, wordSta, wordB, wordCut, wordSto, wordEnd}
+use Rattle.line.specs.Words.{wordSta, wordB, wordCut, wordSto, wordEnd}
 
 -- 0 acknowledged, 1 not
 abbrev pub bitDigit : Bool → List ℕ

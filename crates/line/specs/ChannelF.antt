@@ -1,14 +1,14 @@
 -- The events of channel F (document 01, 'The trace').
 use Prim.Native.Nat.{ℕ, _<_}
-use mathlib.Core.List.{List, [], _∷_, _++_}
+use mathlib.Core.List.{List, _++_}
 use Rattle.record.specs.declared.FlashEvent.{FlashEvent}
 use Rattle.record.specs.declared.FlashEvent.the-variants.{Select, Byte, Cut, Deselect, End}
-use Rattle.field.specs.declared.Cursor.{Cursor}
+use Rattle.field.specs.Ends.{tab, lf}
 use Rattle.field.specs.Hex.{hexField}
 use Rattle.field.specs.Reads.{Reads}
 use Rattle.line.specs.declared.channel_f.ReadPair.{ReadPair}
 use Rattle.line.specs.declared.channel_f.ReadFlash.{ReadFlash}
-use Rattle.line.specs.Words.{tab, lf, wordSel, wordX, wordCut, wordDes, wordEnd}
+use Rattle.line.specs.Words.{wordSel, wordX, wordCut, wordDes, wordEnd}
 
 -- SI and SO, one byte each way
 unfoldable pub spelledPair : ℕ × ℕ → List ℕ

@@ -3,10 +3,10 @@ use Prim.Native.Nat.{ℕ}
 use mathlib.Core.List.{List, _++_}
 use Rattle.record.specs.declared.LineEvent.{LineEvent}
 use Rattle.record.specs.declared.LineEvent.the-variants.{SupplyOn, SupplyOff, LockOn, LockOff}
-use Rattle.field.specs.declared.Cursor.{Cursor}
+use Rattle.field.specs.Ends.{lf}
 use Rattle.field.specs.Reads.{Reads}
 use Rattle.line.specs.declared.channel_l.ReadLine.{ReadLine}
-use Rattle.line.specs.Words.{lf, wordOn, wordOff, wordLock, wordFree}
+use Rattle.line.specs.Words.{wordOn, wordOff, wordLock, wordFree}
 
 unfoldable pub spelledLine : LineEvent → List ℕ
 spelledLine SupplyOn = wordOn ++ lf

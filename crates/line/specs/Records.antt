@@ -1,16 +1,15 @@
 -- A record's line (document 01, 'The trace'): stamp, channel, event, and the event's fields.
 use Prim.Native.Nat.{ℕ, _≤_}
-use mathlib.Core.List.{List, [], _∷_, _++_}
+use mathlib.Core.List.{List, _++_}
 use Rattle.record.specs.declared.Event.{Event}
 use Rattle.record.specs.declared.Event.the-variants.{Flash, Eeprom, Line}
 use Rattle.record.specs.declared.Record.{Record}
-use Rattle.field.specs.declared.Cursor.{Cursor}
-use Rattle.field.specs.declared.decimal.FieldEnd.the-variants.{Tab}
-use Rattle.field.specs.Decimal.{largest, endByte, decimalTo}
+use Rattle.field.specs.Ends.{tab}
+use Rattle.field.specs.Decimal.{largest, decimalField}
 use Rattle.field.specs.Reads.{Reads}
 use Rattle.line.specs.declared.records.ReadEvent.{ReadEvent}
 use Rattle.line.specs.declared.records.ReadRecord.{ReadRecord}
-use Rattle.line.specs.Words.{tab, channelF, channelE, channelL}
+use Rattle.line.specs.Words.{channelF, channelE, channelL}
 use Rattle.line.specs.ChannelF.{spelledFlash, FlashOk}
 use Rattle.line.specs.ChannelE.{spelledEeprom, EepromOk}
 use Rattle.line.specs.ChannelL.{spelledLine}
@@ -22,7 +21,7 @@ spelledEvent (Line e) = channelL ++ (tab ++ spelledLine e)
 
 -- the one spelling of a record: its line with the LF
 unfoldable pub spelled : Record → List ℕ
-spelled r = decimalTo (endByte Tab) (r .stamp) ++ spelledEvent (r .event)
+spelled r = decimalField (r .stamp) ++ spelledEvent (r .event)
 
 abbrev pub EventOk : Event → Type 0
 EventOk (Flash e) = FlashOk e

@@ -2,12 +2,6 @@
 use Prim.Native.Nat.{ℕ}
 use mathlib.Core.List.{List, [], _∷_}
 
-abbrev pub tab : List ℕ
-tab = 9 ∷ []
-
-abbrev pub lf : List ℕ
-lf = 10 ∷ []
-
 abbrev pub wordBoard : List ℕ
 wordBoard = 98 ∷ 111 ∷ 97 ∷ 114 ∷ 100 ∷ []
 

@@ -28,10 +28,7 @@ fn read_status(text: &[u8], c: Cursor) -> ReadHex
     let ReadHex::Value(x, next) = field::read_hex(text, c) else {
         return ReadHex::Bad;
     };
-    if x % 4 != 0 {
-        return ReadHex::Bad;
-    }
-    if (x / 16) % 8 != 0 {
+    if !record::status_ok(x) {
         return ReadHex::Bad;
     }
     ReadHex::Value(x, next)
@@ -85,10 +82,7 @@ pub fn read_board(text: &[u8], c: Cursor) -> ReadBoard
 fn in_range(b: Board) -> bool
     ensures { λ r. ⌜ Decides r (BoardOk b) ⌝ }
 {
-    if b.status % 4 != 0 {
-        return false;
-    }
-    if (b.status / 16) % 8 != 0 {
+    if !record::status_ok(b.status) {
         return false;
     }
     if b.sector < 1 {

@@ -8,7 +8,6 @@ use crate::channel_f::ReadFlash;
 use crate::channel_l::ReadLine;
 use crate::output::Written;
 use field::Cursor;
-use field::FieldEnd;
 use field::ReadDecimal;
 use field::ReadWord;
 use field::Spelling;
@@ -54,7 +53,7 @@ fn read_event(text: &[u8], c: Cursor) -> ReadEvent
 pub fn read_record(text: &[u8], c: Cursor) -> ReadRecord
     ensures { λ r. ⌜ ReadsRecord (now (text .entry)) (c .at) r ⌝ }
 {
-    let ReadDecimal::Value(stamp, c1) = field::read_decimal(text, c, FieldEnd::Tab) else {
+    let ReadDecimal::Value(stamp, c1) = field::read_decimal(text, c) else {
         return ReadRecord::Bad;
     };
     let ReadEvent::Value(event, last) = read_event(text, c1) else {

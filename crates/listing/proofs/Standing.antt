@@ -1,36 +1,29 @@
--- Whether a record stands at a place of a text is known.
-use Prim.Native.Nat.{ℕ, suc, _+_, _≤_, _<_}
+-- Whether a record stands at a place of a text is known, and whether a board stands at its front.
+use Prim.Native.Nat.{ℕ, suc, _+_, _≤_}
 use native.Mathlib.Omega.{arith}
 use mathlib.Core.Path.{_≡_, refl, sym, ap, subst, _∙_}
-use mathlib.Core.Logic.{_⊎_, inl, inr, ⊎-elim}
+use mathlib.Core.Logic.{inl, inr, ⊎-elim}
 use mathlib.Core.List.{List, [], _∷_, _++_}
 use lib.Dec.{eqb}
 use lib.ListN.{length, drop}
 use borrow.Author.Tests.{eqb-true, eqb-false}
-use Rattle.law.specs.Choice.{split, lt-or-le}
+use Rattle.law.specs.Choice.{split}
 use Rattle.record.specs.declared.FlashEvent.{FlashEvent}
 use Rattle.record.specs.declared.EepromEvent.{EepromEvent}
 use Rattle.record.specs.declared.Event.{Event}
+use Rattle.record.specs.declared.Board.{Board}
 use Rattle.record.specs.declared.Record.{Record}
-use Rattle.field.specs.Decimal.{decimalTo, largest}
+use Rattle.field.specs.Decimal.{decimalField, largest}
 use Rattle.field.specs.Reads.{Stands}
 use Rattle.field.proofs.Reading.{stands-left, stands-right, stands-join, got-none}
 use Rattle.field.proofs.Answers.{tells-decimal}
 use Rattle.field.proofs.DecimalLaws.{reads-decimal}
 use Rattle.line.specs.ChannelF.{FlashOk}
 use Rattle.line.specs.ChannelE.{EepromOk}
+use Rattle.line.specs.Boards.{spelledBoard, BoardOk}
 use Rattle.line.specs.Records.{spelledEvent, spelled, EventOk, RecordOk}
 use Rattle.line.proofs.RecordLaws.{eventAt, event-law}
-
--- it holds or it does not
-abbrev pub Known : Type 0 → Type 0
-Known P = P ⊎ (P → ⊥)
-
-and-known : {P Q : Type 0} → Known P → Known Q → Known (P × Q)
-and-known p q = ⊎-elim (λ x. ⊎-elim (λ y. inl (x, y)) (λ n. inr (λ z. n (z .1))) q) (λ n. inr (λ z. n (z .0))) p
-
-lt-known : (m n : ℕ) → Known (m < n)
-lt-known m n = ⊎-elim inl (λ (h : n ≤ m). inr (λ (l : m < n). omega arith)) (lt-or-le m n)
+use Rattle.line.proofs.Theorems.{Known, and-known, lt-known, boardAt, board-law, board-known}
 
 -- ---- whether bytes stand at the front of a list
 Front : List ℕ → List ℕ → Type 0
@@ -97,22 +90,36 @@ unfoldable pub RecordHere : List ℕ → ℕ → Type 0
 RecordHere text at = (r : Record) × RecordOk r × Stands text at (spelled r)
 
 module _ (text : List ℕ) (at : ℕ) where
-  after : (n : ℕ) → n ≤ largest → Stands text at (decimalTo 9 n) → Known (EventHere text (at + length (decimalTo 9 n))) → Known (RecordHere text at)
+  after : (n : ℕ) → n ≤ largest → Stands text at (decimalField n) → Known (EventHere text (at + length (decimalField n))) → Known (RecordHere text at)
   unfolding RecordHere EventHere spelled
-  after n h s k = ⊎-elim (λ z. inl (record { stamp = n; event = z .0 }, (h, z .1), stands-join text (decimalTo 9 n) (spelledEvent (z .0)) at s (z .2)))
+  after n h s k = ⊎-elim (λ z. inl (record { stamp = n; event = z .0 }, (h, z .1), stands-join text (decimalField n) (spelledEvent (z .0)) at s (z .2)))
       (λ m. inr (λ z. m (z .0 .event, z .1 .1, rest z)))
       k
     where
-      rest : (z : RecordHere text at) → Stands text (at + length (decimalTo 9 n)) (spelledEvent (z .0 .event))
+      rest : (z : RecordHere text at) → Stands text (at + length (decimalField n)) (spelledEvent (z .0 .event))
       rest z =
-          let d = reads-decimal 9 (omega arith) text at in
-          let e = tells-decimal .same _ _ _ _ (sym (d .found n h s) ∙ d .found (z .0 .stamp) (z .1 .0) (stands-left text (decimalTo 9 (z .0 .stamp)) (spelledEvent (z .0 .event)) at (z .2))) .0 in
-          subst (λ (j : ℕ). Stands text (at + length (decimalTo 9 j)) (spelledEvent (z .0 .event))) (sym e) (stands-right text (decimalTo 9 (z .0 .stamp)) (spelledEvent (z .0 .event)) at (z .2))
+          let d = reads-decimal text at in
+          let e = tells-decimal .same _ _ _ _ (sym (d .found n h s) ∙ d .found (z .0 .stamp) (z .1 .0) (stands-left text (decimalField (z .0 .stamp)) (spelledEvent (z .0 .event)) at (z .2))) .0 in
+          subst (λ (j : ℕ). Stands text (at + length (decimalField j)) (spelledEvent (z .0 .event))) (sym e) (stands-right text (decimalField (z .0 .stamp)) (spelledEvent (z .0 .event)) at (z .2))
 
   pub record-here : Known (RecordHere text at)
   unfolding RecordHere spelled
   record-here =
-      let d = reads-decimal 9 (omega arith) text at in
-      ⊎-elim (λ e. inr (λ z. got-none tells-decimal d e (z .0 .stamp) (z .1 .0) (stands-left text (decimalTo 9 (z .0 .stamp)) (spelledEvent (z .0 .event)) at (z .2))))
-      (λ z. after (z .0) (z .1) (z .2) (event-here text (at + length (decimalTo 9 (z .0)))))
+      let d = reads-decimal text at in
+      ⊎-elim (λ e. inr (λ z. got-none tells-decimal d e (z .0 .stamp) (z .1 .0) (stands-left text (decimalField (z .0 .stamp)) (spelledEvent (z .0 .event)) at (z .2))))
+      (λ z. after (z .0) (z .1) (z .2) (event-here text (at + length (decimalField (z .0)))))
       (d .only)
+
+-- ---- boards
+-- a board stands at the front, and is in range
+abbrev pub BoardHere : List ℕ → Type 0
+BoardHere text = (b : Board) × BoardOk b × Stands text 0 (spelledBoard b)
+
+pub board-here : (text : List ℕ) → Known (BoardHere text)
+board-here text = ⊎-elim (λ z. inl (x, z .0, z .1)) (λ n. inr (λ z. n (here z))) (and-known (board-known x) (stands-known text (spelledBoard x) 0))
+  where
+    x : Board
+    x = boardAt text
+
+    here : BoardHere text → BoardOk x × Stands text 0 (spelledBoard x)
+    here z = subst (λ (b : Board). BoardOk b × Stands text 0 (spelledBoard b)) (sym (ap boardAt (z .2 .is) ∙ board-law (z .0) (z .1) (z .2 .rest))) (z .1, z .2)

@@ -7,32 +7,35 @@ use mathlib.Core.Path.{_≡_, refl, sym, ap, ap₂, subst, _∙_}
 use mathlib.Core.Bool.{Bool}
 use mathlib.Core.List.{List, [], _∷_, _++_}
 use lib.ListN.{length, drop, getD, length-append}
-use lib.Seq.{drop-drop, drop-append-seam, drop-at, getD-append-add}
+use lib.Seq.{drop-drop, drop-append-seam, getD-append-add}
 use Rattle.law.specs.Choice.{pick, split}
+use Rattle.law.specs.Lists.{All}
 use Rattle.record.specs.declared.Record.{Record}
 use Rattle.record.specs.declared.Board.{Board}
 use Rattle.record.specs.declared.Reply.{Reply}
 use Rattle.record.specs.declared.Match.{Match}
-use Rattle.record.specs.Replies.{replyKind, replyValue, replyMask, matchNumber, replyBytes}
-use Rattle.line.specs.Records.{spelled}
+use Rattle.record.specs.Replies.{replyKind, replyValue, matchNumber, replyBytes}
+use Rattle.line.specs.Records.{spelled, RecordOk}
 use Rattle.line.specs.Boards.{spelledBoard}
-use Rattle.line.proofs.OutputLaws.{spelled-length-min, board-length}
-use Rattle.text.specs.Texts.{spelledAll, spelledTrace, AllOk, Readable}
-use Rattle.listing.specs.Bytes.{replyOf, matchOf, wasPlayed, replyAt, matchAt, numberAt}
-use Rattle.listing.specs.Listing.{Listed, firstRecord, played, listingOf, whereFit, Lists}
-use Rattle.listing.proofs.Which.{one-listed, some-listed}
+use Rattle.line.proofs.OutputLaws.{spelled-length-min}
+use Rattle.text.specs.Texts.{spelledAll, spelledTrace, Readable}
+use Rattle.text.proofs.Theorems.{first-place}
+use Rattle.record.specs.ReplyOf.{replyOf, reply-back}
+use Rattle.listing.specs.Bytes.{matchOf, wasPlayed, replyAt, matchAt, numberAt}
+use Rattle.listing.specs.Listing.{ListedFrom, Listed, played, listingOf, whereFit, Lists}
+use Rattle.listing.proofs.Which.{listed-behind, one-listed, some-listed}
 
 -- ---- the records that are listed
 module _ (text replies : List ℕ) where
   -- there is exactly one list of them
-  pub exactly-one : (rs : List Record) × Listed text replies firstRecord 0 rs × ((xs : List Record) → Listed text replies firstRecord 0 xs → rs ≡ xs)
-  exactly-one = let t = some-listed text replies firstRecord 0 in (t .0, t .1, λ xs l. one-listed text replies firstRecord 0 (t .0) xs (t .1) l)
+  pub exactly-one : (rs : List Record) × Listed text replies rs × ((xs : List Record) → Listed text replies xs → rs ≡ xs)
+  exactly-one = let t = some-listed text replies in (t .0, t .1, λ xs l. one-listed text replies (t .0) xs (t .1) l)
 
   -- the listing is that of any list of records that are listed
-  pub listing-is : (result old new : List ℕ) (n : ℕ) (rs : List Record) → Lists text replies result old new n → Listed text replies firstRecord 0 rs
+  pub listing-is : (result old new : List ℕ) (n : ℕ) (rs : List Record) → Lists text replies result old new n → Listed text replies rs
       → (n ≡ whereFit replies result old (length (listingOf rs replies result)) 0) × (new ≡ whereFit replies result old (listingOf rs replies result ++ drop (length (listingOf rs replies result)) old) old)
   listing-is result old new n rs p l =
-      let e = one-listed text replies firstRecord 0 (p .records) rs (p .listed) l in (
+      let e = one-listed text replies (p .records) rs (p .listed) l in (
         p .answer ∙ ap (λ (xs : List Record). whereFit replies result old (length (listingOf xs replies result)) 0) e,
         p .content ∙ ap (λ (xs : List Record). whereFit replies result old (listingOf xs replies result ++ drop (length (listingOf xs replies result)) old) old) e,
       )
@@ -44,31 +47,23 @@ module _ (text replies : List ℕ) where
       (e .0 ∙ sym (q .answer), e .1 ∙ sym (q .content))
 
   -- records that are the whole rest of a text
-  rest-listed : (rs : List Record) (at k : ℕ) → AllOk rs → drop at text ≡ spelledAll rs → Listed text replies at k (played replies k rs)
-  unfolding Listed played AllOk spelledAll
+  rest-listed : (rs : List Record) (at k : ℕ) → All RecordOk rs → drop at text ≡ spelledAll rs → ListedFrom text replies at k (played replies k rs)
+  unfolding ListedFrom played All spelledAll
   rest-listed [] at k o e = λ r p s. absurd (omega (arith, spelled-length-min r (p .0), length-append (spelled r) (s .rest), ap length (sym (s .is) ∙ e)))
   rest-listed (r ∷ rs) at k o e =
       let t = rest-listed rs (at + length (spelled r)) (suc k) (o .1) (sym (drop-drop (length (spelled r)) at text) ∙ ap (λ (l : List ℕ). drop (length (spelled r)) l) e ∙ drop-append-seam (spelled r) (spelledAll rs)) in
       split (wasPlayed (replyAt replies k))
-      (λ d. subst (λ (b : Bool). Listed text replies at k (pick b (r ∷ played replies (suc k) rs) [])) (sym d) (o .0, record { rest = spelledAll rs; is = e }, d, t))
-      (λ d. subst (λ (b : Bool). Listed text replies at k (pick b (r ∷ played replies (suc k) rs) [])) (sym d) (λ x p s. d))
+      (λ d. subst (λ (b : Bool). ListedFrom text replies at k (pick b (r ∷ played replies (suc k) rs) [])) (sym d) (o .0, record { rest = spelledAll rs; is = e }, d, t))
+      (λ d. subst (λ (b : Bool). ListedFrom text replies at k (pick b (r ∷ played replies (suc k) rs) [])) (sym d) (λ x p s. d))
 
   -- of a readable text its own records are listed, up to the first that was not played
-  pub readable-listed : (b : Board) (rs : List Record) → Readable text b rs → Listed text replies firstRecord 0 (played replies 0 rs)
+  pub readable-listed : (b : Board) (rs : List Record) → Readable text b rs → Listed text replies (played replies 0 rs)
   unfolding spelledTrace
-  readable-listed b rs d = rest-listed rs firstRecord 0 (d .fits) (ap (λ (l : List ℕ). drop firstRecord l) (d .is) ∙ drop-at (spelledBoard b) (spelledAll rs) firstRecord (board-length b))
+  readable-listed b rs d =
+      listed-behind text replies b (played replies 0 rs) (d .board) (record { rest = spelledAll rs; is = d .is })
+      (rest-listed rs (length (spelledBoard b)) 0 (d .fits) (first-place d))
 
 -- ---- bytes
-reply-back : (r : Reply) → replyOf (replyKind r) (replyValue r) (replyMask r) ≡ r
-reply-back Reply.NotPlayed = refl
-reply-back Reply.Silent = refl
-reply-back (Reply.Byte v m) = refl
-reply-back Reply.Ack = refl
-reply-back Reply.NoAck = refl
-reply-back Reply.Starts = refl
-reply-back Reply.Ends = refl
-reply-back Reply.NoCycle = refl
-
 match-back : (m : Match) → matchOf (matchNumber m) ≡ m
 match-back Match.Nothing = refl
 match-back Match.Agrees = refl

@@ -16,10 +16,11 @@ use Rattle.field.specs.Spelling.{held, room, noBytes, putAll}
 use Rattle.field.proofs.SpellingLaws.{Holds}
 use Rattle.listing.specs.Bytes.{answerIn, placeIn, countIn, isRefusal}
 use Rattle.listing.specs.Lines.{heading, lastLine, refusedLine}
-use Rattle.listing.specs.Listing.{Listed, firstRecord, recordLines, listingOf, replyRoom, resultRoom, listingRoom, whereFit, Lists, ListsPlayed}
+use Rattle.record.specs.Lengths.{repliesLength, resultLength, replyPlaces}
+use Rattle.listing.specs.Listing.{Listed, recordLines, listingOf, listingRoom, whereFit, Lists, ListsPlayed}
 use Rattle.listing.proofs.Lengths.{heading-length, last-length, refused-length, holds}
 use Rattle.listing.proofs.Stores.{then, front}
-use Rattle.listing.proofs.Which.{some-listed, few, lines-length}
+use Rattle.listing.proofs.Which.{some-listed, from-somewhere, few, lines-length}
 
 -- ---- which listing it is
 module _ (rs : List Record) (replies result : List ℕ) {answer place : ℕ} (is : answer ≡ answerIn result) (here : place ≡ placeIn result) where
@@ -39,31 +40,32 @@ module _ (rs : List Record) (replies result : List ℕ) {answer place : ℕ} (is
 module _ (text replies result old : List ℕ) where
   nothing : ((A : Type 0) (a b : A) → whereFit replies result old a b ≡ b) → Lists text replies result old old 0
   nothing u =
-      let t = some-listed text replies firstRecord 0 in
+      let t = some-listed text replies in
       record { records = t .0; listed = t .1; within = omega arith; answer = sym (u _ _ _); content = sym (u _ _ _) }
 
-  pub other-replies : (length replies ≡ replyRoom → ⊥) → Lists text replies result old old 0
-  other-replies n = nothing (λ A a b. simp (ne-eqb (length replies) replyRoom n))
+  pub other-replies : (length replies ≡ repliesLength → ⊥) → Lists text replies result old old 0
+  other-replies n = nothing (λ A a b. simp (ne-eqb (length replies) repliesLength n))
 
-  pub other-result : length replies ≡ replyRoom → (length result ≡ resultRoom → ⊥) → Lists text replies result old old 0
-  other-result e n = nothing (λ A a b. simp (eq-eqb (length replies) replyRoom e, ne-eqb (length result) resultRoom n))
+  pub other-result : length replies ≡ repliesLength → (length result ≡ resultLength → ⊥) → Lists text replies result old old 0
+  other-result e n = nothing (λ A a b. simp (eq-eqb (length replies) repliesLength e, ne-eqb (length result) resultLength n))
 
-  pub other-output : length replies ≡ replyRoom → length result ≡ resultRoom → length old < listingRoom → Lists text replies result old old 0
-  other-output e f h = nothing (λ A a b. simp (eq-eqb (length replies) replyRoom e, eq-eqb (length result) resultRoom f, lt-ltb (length old) listingRoom h))
+  pub other-output : length replies ≡ repliesLength → length result ≡ resultLength → length old < listingRoom → Lists text replies result old old 0
+  other-output e f h = nothing (λ A a b. simp (eq-eqb (length replies) repliesLength e, eq-eqb (length result) resultLength f, lt-ltb (length old) listingRoom h))
 
 -- ---- the right lengths
 -- the heading and the records' lines leave room for a last line
-pub played-room : {text replies old new : List ℕ} {n : ℕ} → length replies ≡ replyRoom → ListsPlayed text replies old new n → n ≤ room * 10001
+pub played-room : {text replies old new : List ℕ} {n : ℕ} → length replies ≡ repliesLength → ListsPlayed text replies old new n → n ≤ room * (replyPlaces + 1)
 played-room {text} {replies} e p =
-    let t = few text replies 10000 (omega arith) firstRecord 0 (p .records) (omega arith) (p .listed) in
-    let l = lines-length text replies firstRecord 0 (p .records) (p .listed) t in
+    let s = from-somewhere text replies (p .records) (p .listed) in
+    let t = few text replies replyPlaces (omega arith) (s .0) 0 (p .records) (omega arith) (s .1) in
+    let l = lines-length text replies (s .0) 0 (p .records) (s .1) t in
     omega (arith, p .place, heading-length, length-append heading (recordLines replies 0 (p .records)))
 
-fit : (replies result old : List ℕ) → length replies ≡ replyRoom → length result ≡ resultRoom → listingRoom ≤ length old → {A : Type 0} (a b : A) → whereFit replies result old a b ≡ a
-fit replies result old e f h a b = simp (eq-eqb (length replies) replyRoom e, eq-eqb (length result) resultRoom f, le-ltb (length old) listingRoom h)
+fit : (replies result old : List ℕ) → length replies ≡ repliesLength → length result ≡ resultLength → listingRoom ≤ length old → {A : Type 0} (a b : A) → whereFit replies result old a b ≡ a
+fit replies result old e f h a b = simp (eq-eqb (length replies) repliesLength e, eq-eqb (length result) resultLength f, le-ltb (length old) listingRoom h)
 
-module _ {text replies result old : List ℕ} (e : length replies ≡ replyRoom) (f : length result ≡ resultRoom) (h : listingRoom ≤ length old) where
-  whole : {new : List ℕ} {n : ℕ} (rs : List Record) → Listed text replies firstRecord 0 rs → (w : List ℕ) → listingOf rs replies result ≡ w → n ≡ length w → n ≤ listingRoom → new ≡ sets old 0 w → Lists text replies result old new n
+module _ {text replies result old : List ℕ} (e : length replies ≡ repliesLength) (f : length result ≡ resultLength) (h : listingRoom ≤ length old) where
+  whole : {new : List ℕ} {n : ℕ} (rs : List Record) → Listed text replies rs → (w : List ℕ) → listingOf rs replies result ≡ w → n ≡ length w → n ≤ listingRoom → new ≡ sets old 0 w → Lists text replies result old new n
   whole {new} {n} rs l w is p m q = record {
     records = rs;
     listed = l;
@@ -93,7 +95,7 @@ module _ {text replies result old : List ℕ} (e : length replies ≡ replyRoom)
     refused {new} {n} {s} t d m q =
         let l = refused-length answer place small little in
         let hs : Holds s (refusedLine answer place) = holds (refusedLine answer place) d l in
-        let rs = some-listed text replies firstRecord 0 in
+        let rs = some-listed text replies in
         whole (rs .0) (rs .1) (refusedLine answer place) (refused-is (rs .0) replies result is here (sym does ∙ t))
         (m ∙ zero-add (s .len) ∙ hs .len)
         (omega (arith, m, hs .len))

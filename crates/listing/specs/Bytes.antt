@@ -7,19 +7,9 @@ use lib.ListN.{getD}
 use Rattle.law.specs.Choice.{pick}
 use Rattle.record.specs.declared.Reply.{Reply}
 use Rattle.record.specs.declared.Reply.the-variants.{NotPlayed, Silent, Byte, Ack, NoAck, Starts, Ends, NoCycle}
+use Rattle.record.specs.ReplyOf.{replyOf}
 use Rattle.record.specs.declared.Match.{Match}
 use Rattle.record.specs.declared.Match.the-variants.{Nothing, Agrees, Disagrees}
-
--- the reply of which these are kind, value and mask; a kind above 7 is none, so not played
-abbrev pub replyOf : ℕ → ℕ → ℕ → Reply
-replyOf kind value mask =
-    pick (eqb kind 1) Silent
-    (pick (eqb kind 2) (Byte value mask)
-    (pick (eqb kind 3) Ack
-    (pick (eqb kind 4) NoAck
-    (pick (eqb kind 5) Starts
-    (pick (eqb kind 6) Ends
-    (pick (eqb kind 7) NoCycle NotPlayed))))))
 
 -- the match of this number; above 2 there is nothing to compare
 abbrev pub matchOf : ℕ → Match

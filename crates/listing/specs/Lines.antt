@@ -8,8 +8,8 @@ use Rattle.record.specs.declared.Reply.the-variants.{NotPlayed, Silent, Byte, A
 use Rattle.record.specs.declared.Match.{Match}
 use Rattle.record.specs.declared.Match.the-variants.{Nothing, Agrees, Disagrees}
 use Rattle.field.specs.Decimal.{decimal}
+use Rattle.field.specs.Ends.{tab, lf}
 use Rattle.field.specs.Hex.{hexField}
-use Rattle.line.specs.Words.{tab, lf}
 use Rattle.listing.specs.Words.{wordLine, wordStamp, wordReply, wordMatch, dash, slash, wordAck, wordNo, wordStarts, wordEnds, wordIdle, point, equals, bang, wordSettled, wordStop, wordRefused}
 
 -- line, stamp, reply, match

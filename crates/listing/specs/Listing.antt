@@ -1,5 +1,5 @@
 -- The whole listing, and which records it lists (document 01, 'One listing in full').
-use Prim.Native.Nat.{ℕ, suc, _+_, _≤_}
+use Prim.Native.Nat.{ℕ, suc, _+_, _*_, _≤_}
 use mathlib.Core.Bool.{true, false}
 use mathlib.Core.Path.{_≡_}
 use mathlib.Core.List.{List, [], _∷_, _++_}
@@ -7,21 +7,26 @@ use lib.Dec.{eqb, ltb}
 use lib.ListN.{length, drop}
 use lib.Seq.{sets}
 use Rattle.law.specs.Choice.{pick}
+use Rattle.record.specs.declared.Board.{Board}
 use Rattle.record.specs.declared.Record.{Record}
+use Rattle.record.specs.Lengths.{repliesLength, resultLength, replyPlaces}
 use Rattle.field.specs.Reads.{Stands}
+use Rattle.field.specs.Spelling.{room}
+use Rattle.line.specs.Boards.{spelledBoard, BoardOk}
 use Rattle.line.specs.Records.{spelled, RecordOk}
 use Rattle.listing.specs.Bytes.{wasPlayed, replyAt, matchAt, answerIn, placeIn, countIn, isRefusal}
 use Rattle.listing.specs.Lines.{heading, recordLine, lastLine, refusedLine}
 
--- Which records are listed, from a place of the text on, the first of them being record k: each one that stands there and was played, and then
+-- Which records are listed from a place of the text on, the first of them being record k: each one that stands there and was played, and then
 -- the one that stands after it; none any more where none stands, or the one that does was not played. Exactly the records from a stop's stamp on were not played.
-unfoldable pub Listed : List ℕ → List ℕ → ℕ → ℕ → List Record → Type 0
-Listed text replies at k [] = (r : Record) → RecordOk r → Stands text at (spelled r) → wasPlayed (replyAt replies k) ≡ false
-Listed text replies at k (r ∷ rs) = RecordOk r × Stands text at (spelled r) × (wasPlayed (replyAt replies k) ≡ true) × Listed text replies (at + length (spelled r)) (suc k) rs
+unfoldable pub ListedFrom : List ℕ → List ℕ → ℕ → ℕ → List Record → Type 0
+ListedFrom text replies at k [] = (r : Record) → RecordOk r → Stands text at (spelled r) → wasPlayed (replyAt replies k) ≡ false
+ListedFrom text replies at k (r ∷ rs) = RecordOk r × Stands text at (spelled r) × (wasPlayed (replyAt replies k) ≡ true) × ListedFrom text replies (at + length (spelled r)) (suc k) rs
 
--- every board's line has 13 bytes, so the records begin there
-abbrev pub firstRecord : ℕ
-firstRecord = 13
+-- Which records of a text are listed: those behind the line of the board that stands at its front; none where no board does.
+pub record Listed (text replies : List ℕ) (rs : List Record) : Type 0 where
+  pub behind : (b : Board) → BoardOk b → Stands text 0 (spelledBoard b) → ListedFrom text replies (length (spelledBoard b)) 0 rs
+  pub none : ((b : Board) → BoardOk b → Stands text 0 (spelledBoard b) → ⊥) → rs ≡ []
 
 -- the records before the first that was not played; the first of them is record k
 unfoldable pub played : List ℕ → ℕ → List Record → List Record
@@ -39,41 +44,34 @@ listingOf rs replies result =
     pick (isRefusal (answerIn result)) (refusedLine (answerIn result) (placeIn result))
     (heading ++ (recordLines replies 0 rs ++ lastLine (answerIn result) (placeIn result) (countIn result)))
 
--- the buffers' lengths: four bytes for each of 10,000 records, and the result
-abbrev pub replyRoom : ℕ
-replyRoom = 40000
-
-abbrev pub resultRoom : ℕ
-resultRoom = 12
-
--- enough for any listing: no line is longer than 32 bytes, and there are at most 10,000 records' lines, a heading and a last line
+-- enough for any listing: no line is longer than a spelling's room, and there is a line for each reply at most, a heading and a last line
 abbrev pub listingRoom : ℕ
-listingRoom = 320064
+listingRoom = room * (replyPlaces + 2)
 
 -- the first where the buffers have those lengths, the output at least that one; else the second
 abbrev pub whereFit : {A : Type 0} → List ℕ → List ℕ → List ℕ → A → A → A
 whereFit replies result old a b =
-    pick (eqb (length replies) replyRoom) (pick (eqb (length result) resultRoom) (pick (ltb (length old) listingRoom) b a) b) b
+    pick (eqb (length replies) repliesLength) (pick (eqb (length result) resultLength) (pick (ltb (length old) listingRoom) b a) b) b
 
 -- A listing is written: it stands at the front of the output, the rest of which stays, and its length n is given back. Where the replies or the result
 -- have another length, or the output is shorter, n is 0 and the output stays as it was. So n never reaches beyond the output.
 pub record Lists (text replies result old new : List ℕ) (n : ℕ) : Type 0 where
   pub records : List Record
-  pub listed : Listed text replies firstRecord 0 records
+  pub listed : Listed text replies records
   pub within : n ≤ length new
   pub answer : n ≡ whereFit replies result old (length (listingOf records replies result)) 0
   pub content : new ≡ whereFit replies result old (listingOf records replies result ++ drop (length (listingOf records replies result)) old) old
 
--- The records' lines are written from a place on, and n is the place after them.
-pub record ListsRecords (text replies old : List ℕ) (from : ℕ) (new : List ℕ) (n : ℕ) : Type 0 where
+-- The lines of the records of which P holds are written from a place on, and n is the place after them.
+pub record ListsRecords (P : List Record → Type 0) (replies old : List ℕ) (from : ℕ) (new : List ℕ) (n : ℕ) : Type 0 where
   pub records : List Record
-  pub listed : Listed text replies firstRecord 0 records
+  pub listed : P records
   pub place : n ≡ from + length (recordLines replies 0 records)
   pub content : new ≡ sets old from (recordLines replies 0 records)
 
 -- The heading and the records' lines are written from the front on, and n is the place after them.
 pub record ListsPlayed (text replies old new : List ℕ) (n : ℕ) : Type 0 where
   pub records : List Record
-  pub listed : Listed text replies firstRecord 0 records
+  pub listed : Listed text replies records
   pub place : n ≡ length (heading ++ recordLines replies 0 records)
   pub content : new ≡ sets old 0 (heading ++ recordLines replies 0 records)

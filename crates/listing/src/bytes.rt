@@ -2,7 +2,8 @@
 ghost use mathlib.Core.Path.{_≡_};
 ghost use Prim.Native.Nat.{_+_, _*_, _≤_, _<_};
 ghost use lib.ListN.{length};
-ghost use Rattle.listing.specs.Bytes.{replyOf, matchOf, wasPlayed, replyAt, matchAt, numberAt, isRefusal};
+ghost use Rattle.record.specs.ReplyOf.{replyOf};
+ghost use Rattle.listing.specs.Bytes.{matchOf, wasPlayed, replyAt, matchAt, numberAt, isRefusal};
 use record::Match;
 use record::Reply;
 

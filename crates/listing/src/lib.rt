@@ -4,24 +4,29 @@ ghost use mathlib.Core.Path.{_≡_};
 ghost use Prim.Native.Nat.{_≤_};
 ghost use lib.ListN.{length};
 ghost use Rattle.field.specs.Spelling.{room};
-ghost use Rattle.listing.specs.Listing.{Lists, ListsPlayed, ListsRecords, listingRoom, replyRoom};
+ghost use Rattle.record.specs.Lengths.{repliesLength};
+ghost use Rattle.listing.specs.Listing.{Listed, ListedFrom, Lists, ListsPlayed, ListsRecords, listingRoom};
 
 mod bytes;
 mod lines;
 mod output;
 
 use field::Cursor;
+use line::ReadBoard;
 use line::ReadRecord;
 
-// A line for each record that was played, from a place of the output on; the place after them. The replies have four bytes for each of 10,000 records.
-fn list_records(text: &[u8], replies: &[u8], out: &mut [u8], from: usize) -> usize
-    requires { ⌜ (length (now replies) ≡ replyRoom) × (from ≤ room) × (listingRoom ≤ length (now out)) ⌝ }
-    ensures { λ r. ⌜ ListsRecords (now (text .entry)) (now (replies .entry)) (now (out .entry)) from (now (out .exit)) r ⌝ }
+// Enough for any listing: a line for each reply, a heading and a last line.
+pub const ROOM: usize = field::ROOM * (record::REPLY_PLACES + 2);
+
+// A line for each record that was played, of those that stand from the first on; written from a place of the output on. The place after them.
+fn list_from(text: &[u8], first: Cursor, replies: &[u8], out: &mut [u8], from: usize) -> usize
+    requires { ⌜ (length (now replies) ≡ repliesLength) × (from ≤ room) × (listingRoom ≤ length (now out)) ⌝ }
+    ensures { λ r. ⌜ ListsRecords (ListedFrom (now (text .entry)) (now (replies .entry)) (first .at) 0) (now (replies .entry)) (now (out .entry)) from (now (out .exit)) r ⌝ }
 {
     let mut at = from;
-    let mut c = Cursor { at: 13 };
+    let mut c = first;
     let mut k: usize = 0;
-    while k < 10000 {
+    while k < record::REPLY_PLACES {
         let ReadRecord::Value(rec, next) = line::read_record(text, c) else {
             return at;
         };
@@ -39,9 +44,20 @@ fn list_records(text: &[u8], replies: &[u8], out: &mut [u8], from: usize) -> usi
     at
 }
 
+// The same of the records behind the board's line; no board, no record.
+fn list_records(text: &[u8], replies: &[u8], out: &mut [u8], from: usize) -> usize
+    requires { ⌜ (length (now replies) ≡ repliesLength) × (from ≤ room) × (listingRoom ≤ length (now out)) ⌝ }
+    ensures { λ r. ⌜ ListsRecords (Listed (now (text .entry)) (now (replies .entry))) (now (replies .entry)) (now (out .entry)) from (now (out .exit)) r ⌝ }
+{
+    let ReadBoard::Value(_, first) = line::read_board(text, Cursor { at: 0 }) else {
+        return from;
+    };
+    list_from(text, first, replies, out, from)
+}
+
 // The heading and the records' lines; the place after them.
 fn list_played(text: &[u8], replies: &[u8], out: &mut [u8]) -> usize
-    requires { ⌜ (length (now replies) ≡ replyRoom) × (listingRoom ≤ length (now out)) ⌝ }
+    requires { ⌜ (length (now replies) ≡ repliesLength) × (listingRoom ≤ length (now out)) ⌝ }
     ensures { λ r. ⌜ ListsPlayed (now (text .entry)) (now (replies .entry)) (now (out .entry)) (now (out .exit)) r ⌝ }
 {
     let from = output::copy_line(lines::heading_line(), out, 0);
@@ -52,13 +68,13 @@ fn list_played(text: &[u8], replies: &[u8], out: &mut [u8]) -> usize
 pub fn list(text: &[u8], replies: &[u8], result: &[u8], out: &mut [u8]) -> usize
     ensures { λ r. ⌜ Lists (now (text .entry)) (now (replies .entry)) (now (result .entry)) (now (out .entry)) (now (out .exit)) r ⌝ }
 {
-    if replies.len() != 40000 {
+    if replies.len() != record::REPLIES {
         return 0;
     }
-    if result.len() != 12 {
+    if result.len() != record::RESULT {
         return 0;
     }
-    if out.len() < 320064 {
+    if out.len() < ROOM {
         return 0;
     }
     let answer = bytes::number_at(result, 0);

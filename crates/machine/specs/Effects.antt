@@ -5,6 +5,8 @@ use mathlib.Core.List.{List}
 use lib.Dec.{eqb}
 use Rattle.law.specs.Choice.{pick}
 use Rattle.record.specs.declared.Board.{Board}
+use Rattle.record.specs.declared.Chip.{Chip}
+use Rattle.record.specs.declared.Chip.the-variants as chip
 use Rattle.record.specs.declared.Event.{Event}
 use Rattle.record.specs.declared.Event.the-variants as event
 use Rattle.record.specs.declared.Skeleton.{Skeleton}
@@ -21,13 +23,13 @@ use Rattle.flash.specs.Code.{sectorLocked}
 use Rattle.eeprom.specs.declared.Eeprom.{Eeprom}
 use Rattle.eeprom.specs.declared.EepromCycle.{EepromCycle}
 use Rattle.eeprom.specs.declared.EepromCycle.the-variants as eeprom-cycle
-use Rattle.board.specs.declared.Controls.{Controls}
+use Rattle.controls.specs.declared.Controls.{Controls}
 use Rattle.page.specs.Geometry.{sectorPages}
 use Rattle.image.specs.Image.{Image}
-use Rattle.image.specs.Images.{Images}
+use Rattle.image.specs.Images.{Images, perChip}
 use Rattle.image.specs.Cycles.{programPage, cutProgramPage, eraseAll, cutEraseAll, storePage, cutStorePage}
-use Rattle.machine.specs.declared.Stroke.{Stroke}
-use Rattle.machine.specs.declared.Stroke.the-variants.{Nothing, Whole, Cut}
+use Rattle.machine.specs.declared.effects.Stroke.{Stroke}
+use Rattle.machine.specs.declared.effects.Stroke.the-variants.{Nothing, Whole, Cut}
 
 -- an `end` that finds a cycle is its whole effect
 abbrev pub strokeOf : Skeleton → Stroke
@@ -44,16 +46,11 @@ strokeOf skeleton.NoCycle = Nothing
 abbrev pub lineStroke : Lines → LineEvent → Stroke
 lineStroke l e = pick (goesOff l e) Cut Nothing
 
--- what a record does to the flash's cycle, by its reply, after these lines
-abbrev pub flashStroke : Lines → Event → Skeleton → Stroke
-flashStroke l (event.Flash e) k = strokeOf k
-flashStroke l (event.Eeprom e) k = Nothing
-flashStroke l (event.Line e) k = lineStroke l e
-
-abbrev pub eepromStroke : Lines → Event → Skeleton → Stroke
-eepromStroke l (event.Flash e) k = Nothing
-eepromStroke l (event.Eeprom e) k = strokeOf k
-eepromStroke l (event.Line e) k = lineStroke l e
+-- what a record does to a chip's cycle, by its reply, after these lines: one of the chip's own bus may end it, one of the lines cut it
+abbrev pub strokeFor : Chip → Lines → Event → Skeleton → Stroke
+strokeFor chip l (event.Flash e) k = perChip (strokeOf k) Nothing chip
+strokeFor chip l (event.Eeprom e) k = perChip Nothing (strokeOf k) chip
+strokeFor chip l (event.Line e) k = lineStroke l e
 
 -- page n of the chip is page `inSector n` of sector `sectorOfPage n`
 abbrev pub sectorOfPage : ℕ → ℕ
@@ -105,6 +102,6 @@ eepromAfter Cut e i = eepromCut (e .cycle) i
 -- what a record makes of the images, by its event and its reply, with these controls before it: each chip's image by its own stroke
 abbrev pub imagesAfter : Board → Controls → Event → Skeleton → Images → Images
 imagesAfter b c v k x = record {
-  flash = flashAfter (flashStroke (c .lines) v k) (b .sector) (c .flash) (x .flash);
-  eeprom = eepromAfter (eepromStroke (c .lines) v k) (c .eeprom) (x .eeprom);
+  flash = flashAfter (strokeFor chip.Flash (c .lines) v k) (b .sector) (c .flash) (x .flash);
+  eeprom = eepromAfter (strokeFor chip.Eeprom (c .lines) v k) (c .eeprom) (x .eeprom);
 }

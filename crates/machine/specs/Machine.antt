@@ -1,14 +1,12 @@
--- The head as demand 3 speaks of it: what one record does to controls and images, and its reply.
-use Prim.Native.Nat.{ℕ}
-use mathlib.Core.Bool.{Bool}
+-- The machine as demand 3 speaks of it: what one record does to controls and images, and its reply.
 use Rattle.meaning.specs.Meaning.{Channel, F, E, L, Rules}
 use Rattle.record.specs.declared.Board.{Board}
 use Rattle.record.specs.declared.Record.{Record}
 use Rattle.record.specs.declared.Event.{Event}
 use Rattle.record.specs.declared.Event.the-variants as event
 use Rattle.record.specs.declared.Reply.{Reply}
-use Rattle.board.specs.declared.Controls.{Controls}
-use Rattle.board.specs.Play.{startOf, movedOf, lostOf}
+use Rattle.controls.specs.declared.Controls.{Controls}
+use Rattle.controls.specs.Play.{startOf, movedOf, lostOf}
 use Rattle.image.specs.Image.{Image}
 use Rattle.image.specs.Images.{Images}
 use Rattle.machine.specs.Effects.{imagesAfter}
@@ -44,8 +42,8 @@ unfoldable pub saysOn : Board → Machine → Record → Reply
 saysOn b m r = delivered (imageFor (r .event) (m .images)) (movedOf b (m .controls) r .reply)
 
 -- the machine that demand 3 is about
-abbrev pub head : Board → Rules Record Machine Reply
-head b = record {
+abbrev pub onMachine : Board → Rules Record Machine Reply
+onMachine b = record {
   channel = λ r. channelOf (r .event);
   stamp = λ r. r .stamp;
   play = playOn b;

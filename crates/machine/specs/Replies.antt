@@ -2,7 +2,6 @@
 use Prim.Native.Nat.{ℕ}
 use mathlib.Core.Bool.{Bool, not}
 use lib.Dec.{eqb}
-use lib.ListN.{getD}
 use Rattle.law.specs.Choice.{pick}
 use Rattle.record.specs.declared.Event.{Event}
 use Rattle.record.specs.declared.Event.the-variants as event
@@ -16,7 +15,6 @@ use Rattle.record.specs.declared.Reply.{Reply}
 use Rattle.record.specs.declared.Reply.the-variants as reply
 use Rattle.record.specs.declared.Match.{Match}
 use Rattle.record.specs.declared.Match.the-variants.{Nothing, Agrees, Disagrees}
-use Rattle.cell.specs.declared.Cell.{Cell}
 use Rattle.cell.specs.Rules.{agreesCell}
 use Rattle.image.specs.Image.{Image, cellAt}
 

@@ -1,12 +1,12 @@
 -- All orders of a list of records that keep each channel's own order, in a list: the first record is put into an order of the others, never behind one of its own channel.
 use mathlib.Core.Path.{_≡_, refl, sym, ap, subst, _∙_}
 use mathlib.Core.Bool.{Bool, true, false}
-use mathlib.Core.List.{List, [], _∷_, _++_, map, head-eq-of-cons-eq, tail-eq-of-cons-eq}
+use mathlib.Core.List.{List, [], _∷_, map, head-eq-of-cons-eq, tail-eq-of-cons-eq}
 use Prim.Native.Nat.{ℕ}
 use native.Mathlib.Omega.{arith}
 use Rattle.law.specs.Choice.{true-not-false}
-use Rattle.meaning.specs.Lists.{filter, keep, gather, All, all-map, all-append, all-front, all-behind, all-filter}
-use Rattle.meaning.specs.Meaning.{Channel, same, Rules, of, Allowed, outcome, Alike}
+use Rattle.law.specs.Lists.{filter, keep, gather, All, all-map, all-append, all-front, all-behind, all-filter}
+use Rattle.meaning.specs.Meaning.{Channel, same, Rules, of, outcome, Alike}
 use Rattle.meaning.specs.Channels.{same-self, same-is}
 use Rattle.meaning.specs.Allowing.{level, all-channels}
 

@@ -6,8 +6,8 @@ use Prim.Native.Nat.{ℕ, _≤_, _<_}
 use native.Mathlib.Omega.{arith}
 use lib.Dec.{leb, ltb}
 use borrow.Author.Tests.{leb-true, leb-false, le-leb, lt-leb, lt-ltb, le-ltb}
-use Rattle.meaning.specs.Lists.{filter, keep, All, all-map, all-append, all-filter, all-pass, filter-append, filter-both, filter-all, filter-none}
-use Rattle.meaning.specs.Meaning.{Channel, same, Rules, of, NeverBack, Allowed}
+use Rattle.law.specs.Lists.{filter, keep, All, all-map, all-append, all-filter, all-pass, filter-append, filter-both, filter-all, filter-none, Rising}
+use Rattle.meaning.specs.Meaning.{Channel, Rules, of, NeverBack, Allowed}
 use Rattle.meaning.specs.Channels.{same-self, same-is}
 use Rattle.law.specs.Choice.{true-not-false}
 
@@ -21,7 +21,7 @@ module _ {A S R : Type 0} (m : Rules A S R) where
 
   -- records of one stamp never go back
   pub level : (t : ℕ) (o : List A) → All (λ (a : A). m .stamp a ≡ t) o → NeverBack m o
-  unfolding NeverBack All
+  unfolding Rising All
   level t [] h = tt
   level t (a ∷ o) h =
       let e : m .stamp a ≡ t = h .0 in
@@ -33,16 +33,13 @@ module _ {A S R : Type 0} (m : Rules A S R) where
   pub back : (rs o : List A) → NeverBack m rs → Allowed m rs o → Allowed m o rs
   back rs o h a = record { keeps = λ c. sym (a .keeps c); onward = h }
 
-  pub onto : (rs o p : List A) → Allowed m rs o → Allowed m o p → Allowed m rs p
-  onto rs o p a b = record { keeps = λ c. b .keeps c ∙ a .keeps c; onward = b .onward }
-
   keep-back : (b : Bool) (a : A) (l : List A) → All (λ (x : A). m .stamp a ≤ m .stamp x) l → NeverBack m l → NeverBack m (keep b a l)
-  unfolding keep NeverBack
+  unfolding keep Rising
   keep-back true a l h n = (h, n)
   keep-back false a l h n = n
 
   pub back-filter : (q : A → Bool) (rs : List A) → NeverBack m rs → NeverBack m (filter q rs)
-  unfolding NeverBack filter
+  unfolding Rising filter
   back-filter q [] h = tt
   back-filter q (a ∷ rs) h = keep-back (q a) a (filter q rs) (all-filter _ q rs (h .0)) (back-filter q rs (h .1))
 
@@ -81,7 +78,7 @@ module _ {A S R : Type 0} (m : Rules A S R) where
 
   -- one after the other
   pub back-append : (p rest : List A) (t : ℕ) → All (λ (a : A). m .stamp a ≤ t) p → All (λ (a : A). t < m .stamp a) rest → NeverBack m p → NeverBack m rest → NeverBack m (p ++ rest)
-  unfolding NeverBack All
+  unfolding Rising All
   back-append [] rest t hp hr n k = k
   back-append (a ∷ p) rest t hp hr n k =
       let low : m .stamp a ≤ t = hp .0 in
@@ -102,7 +99,7 @@ module _ {A S R : Type 0} (m : Rules A S R) where
   low t rs = filter (λ (a : A). leb (m .stamp a) t) rs
 
   halves-head : (b : Bool) (a : A) (o : List A) (t : ℕ) → leb (m .stamp a) t ≡ b → NeverBack m (a ∷ o) → o ≡ low t o ++ above t o → a ∷ o ≡ low t (a ∷ o) ++ above t (a ∷ o)
-  unfolding NeverBack filter keep
+  unfolding Rising filter keep
   halves-head true a o t e n h = rw (e, le-ltb t (m .stamp a) (leb-true _ _ e)) (ap (λ (l : List A). a ∷ l) h)
   halves-head false a o t e n h =
       let up : t < m .stamp a = leb-false _ _ e in
@@ -115,7 +112,7 @@ module _ {A S R : Type 0} (m : Rules A S R) where
 
   -- what never goes back is the records up to t, then those above
   pub halves : (o : List A) (t : ℕ) → NeverBack m o → o ≡ low t o ++ above t o
-  unfolding NeverBack filter
+  unfolding Rising filter
   halves [] t n = refl
   halves (a ∷ o) t n = halves-head (leb (m .stamp a) t) a o t refl n (halves o t (n .1))
 

@@ -6,7 +6,7 @@ use Prim.Native.Nat.{ℕ, zero, suc}
 use lib.ListN.{getD}
 use borrow.Author.Tests.{eqb-true, eq-eqb}
 use Rattle.law.specs.Choice.{true-not-false, split}
-use Rattle.meaning.specs.Lists.{All}
+use Rattle.law.specs.Lists.{All}
 use Rattle.meaning.specs.Meaning.{Channel, F, E, L, number, same, Outcome}
 
 abbrev pub channels : List Channel

@@ -1,4 +1,4 @@
--- One chip of a board with any number of them: it hears the records of its own channel and the lines', and goes by its own part of the state.
+-- One chip of a machine with any number of them: it hears the records of its own channel and the lines', and goes by its own part of the state.
 -- What it sees and says in an allowed order is what its own rules give for these two channels' order in it; and each order of the two is met in an allowed one, with all other records in front.
 use mathlib.Core.Path.{_≡_, refl, sym, ap, ap₂, subst, subst₂, _∙_}
 use mathlib.Core.Bool.{Bool, true, false, not}
@@ -7,7 +7,7 @@ use Prim.Native.Nat.{ℕ}
 use Rattle.law.specs.Choice.{pick, true-not-false}
 use Rattle.tied.specs.Orders.{Order, done, busFirst, lineFirst, busesFirst, AnyTwo}
 use Rattle.tied.specs.Orders
-use Rattle.meaning.specs.Lists.{filter, keep, All}
+use Rattle.law.specs.Lists.{filter, keep, All}
 use Rattle.meaning.specs.Meaning.{Channel, L, same, Rules, Outcome, of, Allowed, after, replies, Alike}
 use Rattle.meaning.specs.Channels.{same-self, same-is}
 use Rattle.meaning.specs.Allowing.{In, in-channel}

@@ -6,7 +6,7 @@ use Prim.Native.Nat.{ℕ}
 use Rattle.law.specs.Choice.{pick}
 use Rattle.tied.specs.Orders.{Order, done, busFirst, lineFirst}
 use Rattle.tied.specs.Orders
-use Rattle.meaning.specs.Lists.{filter, keep, All, all-filter, all-map, filter-append, filter-both, filter-all, filter-none}
+use Rattle.law.specs.Lists.{filter, keep, All, all-filter, all-map, filter-append, filter-both, filter-all, filter-none}
 use Rattle.meaning.specs.Meaning.{Channel, L, same, Rules, of, Allowed, after, replies}
 use Rattle.meaning.specs.Channels.{same-self, same-is, same-not}
 use Rattle.meaning.specs.Allowing.{In, in-channel, level, all-channels}

@@ -3,7 +3,7 @@ use mathlib.Core.Path.{_≡_, refl, sym, ap, ap₂, subst, _∙_}
 use mathlib.Core.Bool.{Bool, true, false}
 use mathlib.Core.List.{List, [], _∷_, _++_, append-nil}
 use Prim.Native.Nat.{ℕ}
-use Rattle.meaning.specs.Lists.{filter, gather, All, all-map, all-filter, filter-append, filter-all, filter-none}
+use Rattle.law.specs.Lists.{filter, gather, All, all-map, all-filter, filter-append, filter-all, filter-none}
 use Rattle.meaning.specs.Meaning.{Channel, F, E, L, same, Rules, of, Allowed}
 use Rattle.meaning.specs.Channels.{channels, same-self, same-is}
 use Rattle.meaning.specs.Allowing.{in-channel, level, all-channels}

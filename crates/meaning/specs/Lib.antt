@@ -1,5 +1,4 @@
 -- What demand 3 says, over any machine that plays records.
-pub mod Lists
 pub mod Meaning
 pub mod Channels
 pub mod Sums

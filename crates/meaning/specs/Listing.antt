@@ -2,13 +2,12 @@
 use mathlib.Core.Path.{_≡_, refl, sym, ap, _∙_}
 use mathlib.Core.Bool.{Bool, true, false}
 use mathlib.Core.List.{List, [], _∷_, _++_}
-use Prim.Native.Nat.{ℕ}
 use lib.ListN.{take, drop}
-use Rattle.meaning.specs.Lists.{keep}
-use Rattle.meaning.specs.Meaning.{Channel, same, Rules, Outcome, Reason, Answer, settled, stopped, NeverBack, Allowed, after, replies, outcome, before, upto, Agreed, Alike, Lost}
+use Rattle.law.specs.Lists.{keep}
+use Rattle.meaning.specs.Meaning.{Channel, same, Rules, Outcome, NeverBack, after, replies, outcome, Agreed}
 use Rattle.law.specs.Choice.{pick, true-not-false}
 use Rattle.meaning.specs.Channels.{same-self}
-use Rattle.meaning.specs.Allowing.{itself, back-filter}
+use Rattle.meaning.specs.Allowing.{itself}
 
 -- what is kept in front is the next, and behind it is the rest
 next-kept : {R : Type 0} (t : Bool) (r : R) (l k : List R) → t ≡ true → take 1 (keep t r l) ++ k ≡ r ∷ k
@@ -49,8 +48,3 @@ module _ {A S R : Type 0} (m : Rules A S R) where
   agreed-lines rs b s v h =
       let e = h rs (itself m rs b) in
       (sym (ap (λ (w : Outcome S R). w .state) e), sym (ap (shownAt rs) e) ∙ laid-said rs s)
-
-  -- the status lost in one order of the records so far is lost in each, where they end alike
-  pub lost-each : (rs : List A) (s : S) (t : ℕ) → Alike m (upto m t rs) s → Lost m rs s t → (o : List A) → Allowed m (upto m t rs) o → m .lost (after m o s) ≡ true
-  unfolding Alike Lost
-  lost-each rs s t h k o a = ap (λ (w : Outcome S R). m .lost (w .state)) (h o (k .0) a (k .1)) ∙ k .2

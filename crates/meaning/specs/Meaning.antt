@@ -1,11 +1,11 @@
 -- What the demand says, in its own words. Nothing here computes a replay.
 use mathlib.Core.Path.{_≡_}
-use mathlib.Core.Bool.{Bool, true, false}
+use mathlib.Core.Bool.{Bool, true}
 use mathlib.Core.List.{List, [], _∷_}
-use Prim.Native.Nat.{ℕ, _≤_, _<_}
+use Prim.Native.Nat.{ℕ, _<_}
 use lib.ListN.{length}
 use lib.Dec.{leb, ltb, eqb}
-use Rattle.meaning.specs.Lists.{filter, keep, All}
+use Rattle.law.specs.Lists.{filter, keep, Rising}
 
 pub data Channel : Type 0 where
   F E L : Channel
@@ -25,7 +25,7 @@ most F = 8
 most E = 8
 most L = 2
 
--- the machine: A a record of the trace, S the board's state, R a reply
+-- the machine: A a record of the trace, S its state, R a reply
 pub record Rules (A S R : Type 0) : Type 0 where
   pub channel : A → Channel
   pub stamp : A → ℕ
@@ -33,7 +33,7 @@ pub record Rules (A S R : Type 0) : Type 0 where
   pub says : S → A → R
   pub lost : S → Bool
 
--- how an order ends: the board's state, and each channel's replies in the channel's own order
+-- how an order ends: the machine's state, and each channel's replies in the channel's own order
 pub record Outcome (S R : Type 0) : Type 0 where
   pub state : S
   pub replies : Channel → List R
@@ -52,9 +52,8 @@ module _ {A S R : Type 0} (m : Rules A S R) where
   of c rs = filter (λ (a : A). same c (m .channel a)) rs
 
   -- no later record has an earlier stamp
-  unfoldable pub NeverBack : List A → Type 0
-  NeverBack [] = Unit {0}
-  NeverBack (a ∷ rs) = All (λ (b : A). m .stamp a ≤ m .stamp b) rs × NeverBack rs
+  abbrev pub NeverBack : List A → Type 0
+  NeverBack rs = Rising (m .stamp) rs
 
   -- o is an allowed order of rs: each channel's own order is kept, and no stamp goes back
   pub record Allowed (rs o : List A) : Type 0 where

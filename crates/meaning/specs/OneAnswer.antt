@@ -5,8 +5,8 @@ use mathlib.Core.List.{List}
 use mathlib.Core.Logic.{⊎-elim}
 use Prim.Native.Nat.{ℕ}
 use lib.Dec.{eqb}
-use Rattle.meaning.specs.Lists.{filter, filter-both}
-use Rattle.meaning.specs.Meaning.{Channel, most, Rules, Outcome, Reason, crowded, differ, lost, Answer, settled, stopped, of, NeverBack, Allowed, before, Agreed, Alike, Crowded, Differ, Lost, Holds, FirstReason, Passes, Earliest, Means}
+use Rattle.law.specs.Lists.{filter, filter-both}
+use Rattle.meaning.specs.Meaning.{Channel, Rules, Outcome, Reason, crowded, differ, lost, Answer, settled, stopped, of, NeverBack, Allowed, before, Agreed, Alike, Crowded, Differ, Lost, Holds, FirstReason, Passes, Earliest, Means}
 use Rattle.meaning.specs.Allowing.{itself, back-filter}
 use Rattle.meaning.specs.Steps.{three, first-holds}
 

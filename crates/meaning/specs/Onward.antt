@@ -1,6 +1,6 @@
 -- What comes first, then what follows.
 use mathlib.Core.List.{_++_}
-use Rattle.meaning.specs.Meaning.{Channel, Outcome, Answer, settled, stopped}
+use Rattle.meaning.specs.Meaning.{Outcome, Answer, settled, stopped}
 
 abbrev pub andThen : {S R : Type 0} → Outcome S R → Outcome S R → Outcome S R
 andThen v w = record { state = w .state; replies = λ c. v .replies c ++ w .replies c }

@@ -6,7 +6,7 @@ use Prim.Native.Nat.{ℕ, zero, suc, _≤_, _<_}
 use native.Mathlib.Omega.{arith}
 use lib.Dec.{leb, eqb}
 use borrow.Author.Tests.{leb-true, leb-false, eqb-false, le-leb, lt-leb}
-use Rattle.meaning.specs.Lists.{filter, keep, All, filter-none, all-map}
+use Rattle.law.specs.Lists.{filter, keep, All, filter-none, all-map}
 use Rattle.meaning.specs.Meaning.{Rules, Reason, crowded, differ, lost, Allowed, Alike, upto, at, Differ, Lost, Holds, Passes, Earliest}
 use Rattle.meaning.specs.Steps.{first-holds, nothing-passes, not-crowded-nothing}
 

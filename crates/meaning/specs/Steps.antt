@@ -8,7 +8,7 @@ use native.Mathlib.Omega.{arith}
 use lib.ListN.{length}
 use lib.Dec.{ltb}
 use borrow.Author.Tests.{ltb-true, ltb-false, le-leb, lt-leb, lt-ltb, le-ltb, eq-eqb, ne-eqb}
-use Rattle.meaning.specs.Lists.{filter, keep, keep-append, All, all-map, all-filter, filter-none, front-in, front-out}
+use Rattle.law.specs.Lists.{filter, keep, keep-append, All, all-map, all-filter, filter-none, front-in, front-out}
 use Rattle.meaning.specs.Meaning.{Channel, most, same, Rules, Outcome, Reason, crowded, differ, lost, Answer, settled, stopped, of, Allowed, after, replies, outcome, upto, before, at, Agreed, Alike, Crowded, Differ, Lost, Holds, FirstReason, Passes, Means}
 use Rattle.meaning.specs.Onward.{andThen, goesOn}
 use Rattle.meaning.specs.Allowing.{allowed-nothing, allowed-append, allowed-split}

@@ -6,8 +6,8 @@ use Prim.Native.Nat.{ℕ, _+_, _≤_}
 use native.Mathlib.Omega.{arith}
 use lib.ListN.{length}
 use Rattle.law.specs.Choice.{pick}
-use Rattle.meaning.specs.Lists.{filter, keep}
-use Rattle.meaning.specs.Meaning.{Channel, F, E, L, same}
+use Rattle.law.specs.Lists.{filter, keep}
+use Rattle.meaning.specs.Meaning.{Channel, F, E, L, same, most}
 use Rattle.meaning.specs.Channels.{channels}
 
 abbrev pub sumOver : List Channel → (Channel → ℕ) → ℕ
@@ -16,6 +16,10 @@ sumOver (c ∷ cs) f = f c + sumOver cs f
 
 abbrev pub sum : (Channel → ℕ) → ℕ
 sum f = sumOver channels f
+
+-- the most records that may share a stamp
+abbrev pub mostInAll : ℕ
+mostInAll = sum most
 
 -- each channel is in it once
 sum-one : (d : Channel) (n : ℕ) (f : Channel → ℕ) → sum (λ c. pick (same c d) n 0 + f c) ≡ n + sum f

@@ -4,7 +4,7 @@ use mathlib.Core.Bool.{false}
 use mathlib.Core.List.{List, [], _∷_, _++_, append-nil, append-assoc}
 use Prim.Native.Nat.{ℕ, _≤_, _<_}
 use native.Mathlib.Omega.{arith}
-use Rattle.meaning.specs.Lists.{All, all-map, all-behind}
+use Rattle.law.specs.Lists.{All, all-map, all-behind, Rising}
 use Rattle.meaning.specs.Meaning.{Rules, Outcome, Reason, Answer, settled, stopped, NeverBack, Allowed, Alike, Crowded, after, replies, outcome, Means}
 use Rattle.meaning.specs.Onward.{andThen, goesOn}
 use Rattle.meaning.specs.Steps.{means-end, means-on}
@@ -57,34 +57,13 @@ module _ {A S R : Type 0} (m : Rules A S R) where
 
   -- where a run of one stamp ends, all that follows is above it
   pub back-behind : (p l : List A) → NeverBack m (p ++ l) → NeverBack m l
-  unfolding NeverBack
+  unfolding Rising
   back-behind [] l h = h
   back-behind (a ∷ p) l h = back-behind p l (h .1)
 
   pub run-above : (a : A) (p : List A) (b : A) (rest : List A) → NeverBack m (a ∷ (p ++ (b ∷ rest))) → (m .stamp b ≡ m .stamp a → ⊥) → All (λ (x : A). m .stamp a < m .stamp x) (b ∷ rest)
-  unfolding NeverBack All
+  unfolding Rising All
   run-above a p b rest h n =
       let le : m .stamp a ≤ m .stamp b = all-behind _ p (b ∷ rest) (h .0) .0 in
       let lt : m .stamp a < m .stamp b = omega arith in
       (lt, all-map _ _ (λ x k. omega arith) rest (back-behind p (b ∷ rest) (h .1) .0))
-
-  -- stamps compared line by line
-  unfoldable pub Stepwise : List A → Type 0
-  Stepwise [] = Unit {0}
-  Stepwise (a ∷ []) = Unit {0}
-  Stepwise (a ∷ (b ∷ rs)) = (m .stamp a ≤ m .stamp b) × Stepwise (b ∷ rs)
-
-  pub stepwise-back : (rs : List A) → Stepwise rs → NeverBack m rs
-  unfolding Stepwise NeverBack All
-  stepwise-back [] h = tt
-  stepwise-back (a ∷ []) h = (tt, tt)
-  stepwise-back (a ∷ (b ∷ rs)) h =
-      let k = stepwise-back (b ∷ rs) (h .1) in
-      let le : m .stamp a ≤ m .stamp b = h .0 in
-      ((le, all-map _ _ (λ x z. omega arith) rs (k .0)), k)
-
-  pub back-stepwise : (rs : List A) → NeverBack m rs → Stepwise rs
-  unfolding Stepwise NeverBack All
-  back-stepwise [] h = tt
-  back-stepwise (a ∷ []) h = tt
-  back-stepwise (a ∷ (b ∷ rs)) h = (h .0 .0, back-stepwise (b ∷ rs) (h .1))

@@ -2,10 +2,10 @@
 use mathlib.Core.Path.{_≡_, sym, _∙_}
 use mathlib.Core.List.{List, [], _∷_}
 use mathlib.Core.Logic.{_⊎_, inl, inr, ⊎-elim}
-use Prim.Native.Nat.{ℕ, _≤_, _<_}
+use Prim.Native.Nat.{ℕ, _≤_}
 use native.Mathlib.Omega.{arith}
 use Rattle.law.specs.Choice.{lt-or-le}
-use Rattle.meaning.specs.Lists.{All}
+use Rattle.law.specs.Lists.{All, Rising}
 use Rattle.meaning.specs.Meaning.{Rules, Outcome, NeverBack, Allowed, outcome, upto, Alike, Differ}
 use Rattle.meaning.specs.Allowing.{itself, back-filter}
 use Rattle.meaning.specs.AllOrders.{Keeps, orders, all-orders, orders-keep}
@@ -42,7 +42,7 @@ module _ {X : Type 0} (P : X → Type 0) (tell : (x : X) → One (P x)) where
 
 module _ {A S R : Type 0} (m : Rules A S R) where
   tell-back : (o : List A) → One (NeverBack m o)
-  unfolding NeverBack
+  unfolding Rising
   tell-back [] = inl tt
   tell-back (a ∷ o) =
       both (tell-all (λ (b : A). m .stamp a ≤ m .stamp b) (λ b. ⊎-elim (λ l. inr (λ k. omega arith)) (λ k. inl k) (lt-or-le (m .stamp b) (m .stamp a))) o) (tell-back o)

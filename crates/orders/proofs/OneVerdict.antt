@@ -1,10 +1,9 @@
 -- The verdict on a stamp is determined.
 use mathlib.Core.Path.{_≡_, refl, sym, _∙_}
-use mathlib.Core.Logic.{inl, inr}
 use native.Mathlib.Omega.{arith}
 use Rattle.law.specs.Choice.{true-not-false}
 use Rattle.record.specs.declared.Board.{Board}
-use Rattle.board.specs.declared.Controls.{Controls}
+use Rattle.controls.specs.declared.Controls.{Controls}
 use Rattle.orders.specs.declared.Held.{Held}
 use Rattle.orders.specs.declared.Verdict.{Verdict}
 use Rattle.orders.specs.declared.Verdict.the-variants.{Crowded, Differ, Lost, Passes}
@@ -12,9 +11,7 @@ use Rattle.orders.specs.Verdicts.{TooMany, Few, Judged}
 
 -- a crowded stamp does not have few records
 crowded : {A : Type 0} (h : Held) → TooMany h → Few h → A
-crowded h (inl k) f = let l = f .flash in absurd (omega arith)
-crowded h (inr (inl k)) f = let l = f .eeprom in absurd (omega arith)
-crowded h (inr (inr k)) f = let l = f .lines in absurd (omega arith)
+crowded h (c, k) f = let l = f c in absurd (omega arith)
 
 pub one-verdict : (b : Board) (h : Held) (s : Controls) (v w : Verdict) → Judged b h s v → Judged b h s w → v ≡ w
 unfolding Judged

@@ -1,23 +1,24 @@
 -- What the branches of `bus_next` and `line_next` decide.
 use mathlib.Core.Path.{_≡_, refl, sym, ap, _∙_}
-use mathlib.Core.Bool.{Bool, true, false}
+use mathlib.Core.Bool.{Bool, false}
 use mathlib.Core.List.{List, [], _∷_, _++_, append-assoc, append-nil}
-use Prim.Native.Nat.{ℕ, suc, _+_, _≤_, _<_}
+use Prim.Native.Nat.{ℕ, _+_, _≤_, _<_}
 use native.Mathlib.Numerals.{add-one}
 use native.Mathlib.Omega.{arith}
-use lib.ListN.{length, take, drop, getD, set, length-set}
+use lib.ListN.{length, take, getD, set, length-set}
 use lib.Seq.{take-suc-set}
-use Rattle.law.specs.Deciding.{Decides, decides-true, decides-false, decides-as}
+use Rattle.meaning.specs.Meaning.{F, most}
+use Rattle.law.specs.Deciding.{Decides, decides-false, decides-as}
 use Rattle.law.specs.Rest.{rest-cons, rest-nil}
 use Rattle.record.specs.declared.Record.{Record}
-use Rattle.board.specs.declared.Controls.{Controls}
-use Rattle.board.specs.declared.Moved.{Moved}
-use Rattle.board.specs.Play.{movedOf}
+use Rattle.controls.specs.declared.Controls.{Controls}
+use Rattle.controls.specs.declared.Moved.{Moved}
+use Rattle.controls.specs.Play.{movedOf}
 use Rattle.tied.specs.Orders.{Order, done, busFirst, lineFirst, after, replies, busesFirst, after-reference, replies-reference, reference-two, two-reference, afterBuses, saidBuses, afterLines, AnyTwo, agree-none, none-agree, agree-both, agree-buses, agree-lines, bus-agree, line-agree, reply-agree, rest-agree, agree-rest}
 use Rattle.orders.specs.declared.Said.{Said}
 use Rattle.orders.specs.declared.Tied.{Tied}
 use Rattle.orders.specs.declared.Outcome.{Outcome}
-use Rattle.orders.specs.Stamp.{BusesPlayed, Reference, Settled, bus, reply, line, busesFrom, linesFrom, repliesFrom, AgreeFrom, BusAgrees, LineAgrees}
+use Rattle.orders.specs.Stamp.{BusesPlayed, Reference, Settled, bus, reply, line, busesFrom, linesFrom, AgreeFrom, BusAgrees, LineAgrees}
 
 -- the arrays are as long as they are declared
 pub record Whole (h : Tied) (w : Outcome) : Type 0 where
@@ -88,14 +89,14 @@ after-line h w ib il s r n e g = rw e at g
 -- the loop over the bus records, at its head: `rs` has the replies so far, s is the state so far
 pub record Playing (h : Tied) (s₀ : Controls) (rs : List Said) (s : Controls) (i : ℕ) : Type 0 where
   pub at : i ≤ h .«bus_count»
-  pub long : length rs ≡ 8
+  pub long : length rs ≡ most F
   pub state : afterBuses (bus h) (busesFrom h i) s ≡ afterBuses (bus h) (busesFrom h 0) s₀
   pub said : take i rs ++ saidBuses (bus h) (reply h) (busesFrom h i) s ≡ saidBuses (bus h) (reply h) (busesFrom h 0) s₀
 
-pub playing-starts : (h : Tied) (s₀ : Controls) (rs : List Said) → length rs ≡ 8 → Playing h s₀ rs s₀ 0
+pub playing-starts : (h : Tied) (s₀ : Controls) (rs : List Said) → length rs ≡ most F → Playing h s₀ rs s₀ 0
 playing-starts h s₀ rs e = record { at = omega arith; long = e; state = refl; said = refl }
 
-module _ (h : Tied) (all : h .«bus_count» ≤ length (h .buses)) (most : h .«bus_count» ≤ 8) (s₀ : Controls) (rs : List Said) (s : Controls) (i : ℕ) (p : Playing h s₀ rs s i) where
+module _ (h : Tied) (all : h .«bus_count» ≤ length (h .buses)) (room : h .«bus_count» ≤ most F) (s₀ : Controls) (rs : List Said) (s : Controls) (i : ℕ) (p : Playing h s₀ rs s i) where
   pub playing-goes : (d : Record) (st : Moved) → st ≡ movedOf (h .board) s (getD (h .buses) i d) → i < h .«bus_count» → Playing h s₀ (set rs i (record { reply = st .reply })) (st .controls) (i + 1)
   unfolding afterBuses saidBuses
   playing-goes d st e b =

@@ -5,8 +5,9 @@ use mathlib.Core.List.{List}
 use lib.ListN.{take, drop}
 use Rattle.record.specs.declared.Record.{Record}
 use Rattle.record.specs.declared.Board.{Board}
-use Rattle.board.specs.declared.Controls.{Controls}
-use Rattle.board.specs.Play.{movedOf}
+use Rattle.controls.specs.declared.Controls.{Controls}
+use Rattle.controls.specs.Play.{movedOf}
+use Rattle.meaning.specs.Meaning.{F, L, most}
 use Rattle.tied.specs.Orders.{Agree, AgreeBus, AnyTwo, after, busesFirst, afterBuses, saidBuses}
 use Rattle.tied.specs.Orders
 use Rattle.orders.specs.declared.Said.{Said}
@@ -26,12 +27,12 @@ reply h s r = record { reply = movedOf (h .board) s r .reply }
 abbrev pub line : Tied → Controls → Record → Controls
 line h s r = movedOf (h .board) s r .controls
 
--- the indices are within the counts, and those within the arrays
+-- the indices are within the counts, and those within the arrays: a bus's has room for the most of F, which is that of E
 pub record Within (h : Tied) (ib il : ℕ) : Type 0 where
   pub bus : ib ≤ h .«bus_count»
-  pub buses : h .«bus_count» ≤ 8
+  pub buses : h .«bus_count» ≤ most F
   pub line : il ≤ h .«line_count»
-  pub lines : h .«line_count» ≤ 2
+  pub lines : h .«line_count» ≤ most L
 
 abbrev pub busesFrom : Tied → ℕ → List Record
 busesFrom h i = drop i (take (h .«bus_count») (h .buses))

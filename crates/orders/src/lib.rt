@@ -4,28 +4,36 @@ ghost use mathlib.Core.Path.{_≡_};
 ghost use Prim.Native.Nat.{_+_};
 ghost use Rattle.law.specs.Deciding.{Decides};
 ghost use Rattle.tied.specs.Orders.{afterLines};
-ghost use Rattle.orders.specs.Verdicts.{flashTied, eepromTied, Few, lastOf, Judged};
+ghost use Rattle.orders.specs.Verdicts.{tiedOf, Few, lastOf, Judged};
+ghost use Rattle.meaning.specs.Meaning.{F, E};
 ghost use Rattle.orders.specs.Stamp.{line, Within, BusesPlayed, Reference, Settled, LineAgrees, BusAgrees, linesFrom};
-use board::Controls;
+use controls::Controls;
 use record::Board;
 use record::Record;
 use record::Skeleton;
 
+// The most records that may share a stamp: of F or of E, of L, and together.
+pub const MOST_BUS: usize = 8;
+
+pub const MOST_LINE: usize = 2;
+
+pub const MOST_IN_ALL: usize = 2 * MOST_BUS + MOST_LINE;
+
 // The records of one stamp by channel. A count may be above what the array holds: then the stamp is crowded.
 pub struct Held {
-    pub flash: [Record; 8],
+    pub flash: [Record; MOST_BUS],
     pub flash_count: usize,
-    pub eeprom: [Record; 8],
+    pub eeprom: [Record; MOST_BUS],
     pub eeprom_count: usize,
-    pub lines: [Record; 2],
+    pub lines: [Record; MOST_LINE],
     pub line_count: usize,
 }
 
 // The records of one bus and of the lines.
 struct Tied {
-    buses: [Record; 8],
+    buses: [Record; MOST_BUS],
     bus_count: usize,
-    lines: [Record; 2],
+    lines: [Record; MOST_LINE],
     line_count: usize,
     board: Board,
 }
@@ -37,7 +45,7 @@ struct Said {
 // How an order ends: the controls, and the bus records' replies.
 struct Outcome {
     controls: Controls,
-    replies: [Said; 8],
+    replies: [Said; MOST_BUS],
 }
 
 // What is found at a stamp, the first that holds: too many records, orders that differ, a status lost after it.
@@ -78,7 +86,7 @@ fn line_next(
         let l = tied.lines[at];
         return line_next(l, tied, ib, at, next, want);
     }
-    board::same(next, want.controls)
+    controls::same(next, want.controls)
 }
 
 // The bus record comes first, and then either kind.
@@ -117,7 +125,7 @@ fn bus_next(
         let l = tied.lines[il];
         return line_next(l, tied, at, il, next, want);
     }
-    board::same(next, want.controls)
+    controls::same(next, want.controls)
 }
 
 // All bus records, and their replies.
@@ -127,7 +135,7 @@ fn play_buses(tied: Tied, controls: Controls) -> Outcome
 {
     let mut replies = [Said {
         reply: Skeleton::Silent,
-    }; 8];
+    }; MOST_BUS];
     let mut cur = controls;
     let mut i: usize = 0;
     while i < tied.bus_count {
@@ -195,7 +203,7 @@ fn agree(tied: Tied, controls: Controls) -> bool
 }
 
 fn tied_flash(held: Held, board: Board) -> Tied
-    ensures { λ r. ⌜ r ≡ flashTied held board ⌝ }
+    ensures { λ r. ⌜ r ≡ tiedOf held F board ⌝ }
 {
     let buses = held.flash;
     let lines = held.lines;
@@ -209,7 +217,7 @@ fn tied_flash(held: Held, board: Board) -> Tied
 }
 
 fn tied_eeprom(held: Held, board: Board) -> Tied
-    ensures { λ r. ⌜ r ≡ eepromTied held board ⌝ }
+    ensures { λ r. ⌜ r ≡ tiedOf held E board ⌝ }
 {
     let buses = held.eeprom;
     let lines = held.lines;
@@ -238,13 +246,13 @@ fn last(held: Held, board: Board, controls: Controls) -> Controls
 pub fn judge(held: Held, board: Board, controls: Controls) -> Verdict
     ensures { λ r. ⌜ Judged board held controls r ⌝ }
 {
-    if 8 < held.flash_count {
+    if MOST_BUS < held.flash_count {
         return Verdict::Crowded;
     }
-    if 8 < held.eeprom_count {
+    if MOST_BUS < held.eeprom_count {
         return Verdict::Crowded;
     }
-    if 2 < held.line_count {
+    if MOST_LINE < held.line_count {
         return Verdict::Crowded;
     }
     if !agree(tied_flash(held, board), controls) {

@@ -20,10 +20,9 @@ rolled-mod last at h =
     (λ t. let l = ltb-true at last t in simp (t) (sym (mod-eq-of-lt (omega arith))))
     (λ t. let l = ltb-false at last t in let e : at ≡ last = omega arith in simp (t) (rw e (sym (mod-self (last + 1)))))
 
-pub rolled-small : (last at : ℕ) → at ≤ last → rolledIn last at ≤ last
-rolled-small last at h =
-    let l : (at + 1) % (last + 1) < last + 1 = mod-lt (at + 1) (omega arith) in
-    rw (rolled-mod last at h) (omega arith)
+-- it is never past the last
+pub rolled-small : (last at : ℕ) → rolledIn last at ≤ last
+rolled-small last at = split (ltb at last) (λ t. simp (t) (omega (arith, ltb-true at last t))) (λ t. simp (t) (omega arith))
 
 pub rolled-64 : (at : ℕ) → at < 64 → rolledIn 63 at ≡ (at + 1) % 64
 rolled-64 at h = rolled-mod 63 at (omega arith)
@@ -41,7 +40,7 @@ pub rolled-times : (last k at : ℕ) → at ≤ last → rolledTimes last k at �
 unfolding rolledTimes
 rolled-times last zero at h = let e : at + 0 ≡ at = omega arith in rw e (sym (mod-eq-of-lt (omega arith)))
 rolled-times last (suc k) at h =
-    rolled-times last k (rolledIn last at) (rolled-small last at h)
+    rolled-times last k (rolledIn last at) (rolled-small last at)
     ∙ rw (rolled-mod last at h) (mod-add-mod (at + 1) (last + 1) k ∙ ap (λ (n : ℕ). n % (last + 1)) (omega arith))
 
 pub times-64 : (k at : ℕ) → at < 64 → rolledTimes 63 k at ≡ place 64 at k

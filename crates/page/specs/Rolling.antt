@@ -1,14 +1,18 @@
 -- The rolling of a page write, once for every page size (document 01, 'Flash rules', 'EEPROM rules').
-use Prim.Native.Nat.{ℕ, _+_, _-_, _%_}
+use Prim.Native.Nat.{ℕ, _+_, _-_, _*_, _/_, _%_}
 use mathlib.Core.Bool.{Bool}
 use mathlib.Core.List.{List, [], _∷_}
 use lib.Dec.{ltb}
 use lib.ListN.{set}
 use Rattle.law.specs.Choice.{pick}
 
--- the place after one in a page, by the page's last place
+-- the place after one in a page or a chip, by its last place
 abbrev pub rolledIn : ℕ → ℕ → ℕ
 rolledIn last at = pick (ltb at last) (at + 1) 0
+
+-- the place after one, in the own rolling of its page
+abbrev pub nextIn : ℕ → ℕ → ℕ
+nextIn size p = p / size * size + rolledIn (size - 1) (p % size)
 
 -- where the k-th data byte goes, counted from 0, in a page of `size` places
 abbrev pub place : ℕ → ℕ → ℕ → ℕ

@@ -1,5 +1,6 @@
-// The chips' geometry, and rolling inside a page, over the page's last place: 63 for the EEPROM, 255 for the flash.
+// The chips' geometry, and the place after one: in a page and in a whole chip.
 ghost use mathlib.Core.Path.{_≡_};
+ghost use Prim.Native.Nat.{_≤_};
 ghost use Rattle.page.specs.Rolling.{rolledIn};
 
 // The flash: 256 bytes to a page, 32,768 to a sector.
@@ -18,9 +19,10 @@ pub const EEPROM_PAGE: u32 = 64;
 
 pub const EEPROM_SIZE: u32 = 0x8000;
 
-// The place after one in a page whose last place is `last`.
-pub fn rolled(at: u8, last: u8) -> u8
+// The place after one where `last` is the last place, of a page or of a chip.
+pub fn rolled(at: u32, last: u32) -> u32
     ensures { λ r. ⌜ r ≡ rolledIn last at ⌝ }
+    ensures { λ r. ⌜ r ≤ last ⌝ }
 {
     if at < last { at + 1 } else { 0 }
 }

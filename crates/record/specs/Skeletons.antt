@@ -1,5 +1,4 @@
 -- A skeleton reply by its numbers.
-use Prim.Native.Nat.{ℕ}
 use mathlib.Core.Bool.{Bool}
 use mathlib.Core.Path.{_≡_, refl}
 use lib.Dec.{eqb}

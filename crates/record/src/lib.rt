@@ -3,9 +3,16 @@ ghost use mathlib.Core.Path.{_≡_};
 ghost use Rattle.law.specs.Deciding.{Decides};
 ghost use Rattle.record.specs.Answers.{answerNumber};
 ghost use Rattle.record.specs.Replies.{replyKind, replyValue, replyMask, matchNumber};
+ghost use Rattle.record.specs.Status.{StatusOk};
 ghost use Rattle.record.specs.Skeletons.{skeletonNumbers};
-ghost use Rattle.record.specs.LineRules.{linesAfter, linesAtStart};
+ghost use Rattle.record.specs.LineRules.{linesAfter, linesAtStart, goesOff, lockComesOn};
 use law::Numbers;
+
+// The chips whose bytes are kept.
+pub enum Chip {
+    Flash,
+    Eeprom,
+}
 
 // Channel F. A byte goes each way: SI, then SO.
 pub enum FlashEvent {
@@ -49,6 +56,19 @@ pub struct Board {
     pub status: u8,
     pub sector: u8,
     pub address: u8,
+}
+
+// Whether a status has only bits that may be set: 7, 3 and 2.
+pub fn status_ok(status: u8) -> bool
+    ensures { λ r. ⌜ Decides r (StatusOk status) ⌝ }
+{
+    if status % 4 != 0 {
+        return false;
+    }
+    if (status / 16) % 8 != 0 {
+        return false;
+    }
+    true
 }
 
 // The common supply and the lock net.
@@ -121,6 +141,37 @@ pub fn lines_after(lines: Lines, e: LineEvent) -> Lines
         },
     }
 }
+
+// Whether the supply goes off: where it is off already, nothing does.
+pub fn goes_off(lines: Lines, e: LineEvent) -> bool
+    ensures { λ r. ⌜ r ≡ goesOff lines e ⌝ }
+{
+    match e {
+        LineEvent::SupplyOn => false,
+        LineEvent::SupplyOff => lines.supply,
+        LineEvent::LockOn => false,
+        LineEvent::LockOff => false,
+    }
+}
+
+// Whether the lock comes on: where it is on already, nothing does.
+pub fn lock_comes_on(lines: Lines, e: LineEvent) -> bool
+    ensures { λ r. ⌜ r ≡ lockComesOn lines e ⌝ }
+{
+    match e {
+        LineEvent::SupplyOn => false,
+        LineEvent::SupplyOff => false,
+        LineEvent::LockOn => !lines.lock,
+        LineEvent::LockOff => false,
+    }
+}
+
+// How many bytes the replies take, four to a record, and the result.
+pub const REPLIES: usize = 40000;
+
+pub const REPLY_PLACES: usize = REPLIES / 4;
+
+pub const RESULT: usize = 12;
 
 // What a replay answers.
 pub enum Answer {

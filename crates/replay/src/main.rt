@@ -12,8 +12,8 @@ fn print_replay(
     eeprom: &mut [u8],
     eeprom_mask: &mut [u8],
 ) {
-    let mut replies = [0u8; 40000];
-    let mut result = [0u8; 12];
+    let mut replies = [0u8; record::REPLIES];
+    let mut result = [0u8; record::RESULT];
     desk::hazelcrook_replay(
         text,
         flash,
@@ -23,32 +23,27 @@ fn print_replay(
         &mut replies,
         &mut result,
     );
-    let mut out = [0u8; 320064];
+    let mut out = [0u8; listing::ROOM];
     let n = listing::list(text, &replies, &result, &mut out);
     if !io::write_all(STDOUT_FILENO, &out[..n]) {
         os::fail(b"standard output");
     }
 }
 
-// How many bytes are kept of each chip.
-const FLASH: usize = page::FLASH_SECTOR as usize;
-
-const EEPROM: usize = page::EEPROM_SIZE as usize;
-
 fn main() {
     // One byte more than a text may have is enough to know that it is too long.
-    let mut text = [0u8; 65537];
+    let mut text = [0u8; text::LIMIT + 1];
     let Taken::Bytes(text_len) = files::trace(&mut text) else {
         return;
     };
     // Without a dump all is 00 with mask ff. One byte more than an image has tells that a dump is longer.
-    let mut flash = [0u8; FLASH + 1];
-    let mut flash_mask = [255u8; FLASH];
+    let mut flash = [0u8; image::FLASH_KEPT + 1];
+    let mut flash_mask = [255u8; image::FLASH_KEPT];
     let Taken::Bytes(flash_len) = files::dump(b"flash.bin", &mut flash, &mut flash_mask) else {
         return;
     };
-    let mut eeprom = [0u8; EEPROM + 1];
-    let mut eeprom_mask = [255u8; EEPROM];
+    let mut eeprom = [0u8; image::EEPROM_KEPT + 1];
+    let mut eeprom_mask = [255u8; image::EEPROM_KEPT];
     let Taken::Bytes(eeprom_len) = files::dump(b"eeprom.bin", &mut eeprom, &mut eeprom_mask) else {
         return;
     };

@@ -1,23 +1,22 @@
 -- What `judge_at` finds.
 use mathlib.Core.Path.{_≡_, refl, sym, ap, subst, _∙_}
-use mathlib.Core.List.{List, [], _∷_, _++_}
-use Prim.Native.Nat.{ℕ, _+_, _≤_, _<_}
+use mathlib.Core.List.{List, [], _∷_}
+use Prim.Native.Nat.{ℕ, _≤_, _<_}
 use native.Mathlib.Omega.{arith}
 use lib.ListN.{length, drop}
-use Rattle.meaning.specs.Lists.{All}
+use Rattle.law.specs.Lists.{All}
 use Rattle.record.specs.declared.Record.{Record}
 use Rattle.record.specs.declared.Board.{Board}
 use Rattle.field.specs.declared.Cursor.{Cursor}
 use Rattle.line.specs.declared.records.ReadRecord.{ReadRecord}
-use Rattle.line.specs.Records.{ReadsRecord}
-use Rattle.board.specs.declared.Controls.{Controls}
+use Rattle.line.specs.Records.{RecordOk, ReadsRecord}
+use Rattle.controls.specs.declared.Controls.{Controls}
 use Rattle.orders.specs.declared.Verdict.{Verdict}
 use Rattle.orders.specs.declared.Verdict.the-variants.{Crowded, Differ, Lost, Passes}
 use Rattle.orders.specs.Verdicts.{Judged}
-use Rattle.text.specs.Texts.{spelledAll, AllOk}
+use Rattle.text.specs.Texts.{spelledAll}
 use Rattle.stamps.specs.declared.Gathered.{Gathered}
-use Rattle.stamps.specs.declared.Judgement.{Judgement}
-use Rattle.stamps.specs.Gathering.{gatheredWith, nothingGathered, Keeps, Taken, Over, Gathers}
+use Rattle.stamps.specs.Gathering.{gatheredWith, nothingGathered, Keeps, Gathers}
 use Rattle.stamps.specs.Judging.{Found, JudgesAt}
 use Rattle.stamps.proofs.Keeping.{keeps-one, keeps-none}
 use Rattle.stamps.proofs.Turns.{recordOf, placeOf, next-of, read-place}
@@ -43,7 +42,7 @@ module _ (text : List ℕ) (place : ℕ) (b : Board) (c : Controls) (a : ReadRec
     keeps-first : Keeps b first (r ∷ [])
     keeps-first = subst (λ (x : Gathered). Keeps b x (r ∷ [])) (sym (f ∙ ap (λ (x : Gathered). gatheredWith x r (cur .at)) n)) (keeps-one b [] r nothingGathered (keeps-none b) (cur .at))
 
-    found : (rs : List Record) → AllOk rs → drop place text ≡ spelledAll rs → place < length text →
+    found : (rs : List Record) → All RecordOk rs → drop place text ≡ spelledAll rs → place < length text →
         Found text b c rs (record { verdict = v; records = g .records; count = g .count; next = g .next; stamp = r .stamp })
     unfolding All
     found rs o z l =

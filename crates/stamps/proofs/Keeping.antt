@@ -1,27 +1,26 @@
 -- One record more is held: once over the most that a channel may have.
-use mathlib.Core.Path.{_≡_, refl, sym, ap, ap₂, subst, _∙_}
+use mathlib.Core.Path.{_≡_, refl, sym, ap, subst, subst₂, _∙_}
 use mathlib.Core.Bool.{Bool, true, false}
-use mathlib.Core.Logic.{_⊎_, inl, inr, ⊎-elim}
 use mathlib.Core.List.{List, [], _∷_, _++_, append-nil}
-use Prim.Native.Nat.{ℕ, suc, _+_, _≤_, _<_, min}
+use Prim.Native.Nat.{ℕ, _+_, _≤_, _<_}
 use native.Mathlib.Numerals.{add-one}
 use native.Mathlib.Omega.{arith}
 use lib.Dec.{ltb}
-use lib.ListN.{length, take, set, replicate, length-set, length-append}
+use lib.ListN.{length, set, length-set, length-append}
 use lib.Seq.{take-all, take-suc-set, take-append-le}
 use borrow.Author.Tests.{ltb-true, ltb-false}
 use Rattle.law.specs.Choice.{pick, split}
-use Rattle.meaning.specs.Lists.{keep, filter, filter-append}
-use Rattle.meaning.specs.Meaning.{Channel, F, E, L, same, of}
+use Rattle.law.specs.Lists.{keep, filter, filter-append}
+use Rattle.meaning.specs.Meaning.{Channel, F, E, L, same, most, of}
+use Rattle.meaning.specs.Sums.{mostInAll}
 use Rattle.record.specs.declared.Record.{Record}
 use Rattle.record.specs.declared.Board.{Board}
-use Rattle.record.specs.declared.Event.{Event}
-use Rattle.record.specs.declared.Event.the-variants as event
 use Rattle.orders.specs.declared.Held.{Held}
-use Rattle.machine.specs.Machine.{head, channelOf}
-use Rattle.verdict.specs.Verdict.{HoldsMost, Holds}
+use Rattle.orders.specs.Verdicts.{countOf, arrayOf}
+use Rattle.machine.specs.Machine.{onMachine, channelOf}
+use Rattle.enough.specs.Enough.{HoldsMost, Holds}
 use Rattle.stamps.specs.declared.Gathered.{Gathered}
-use Rattle.stamps.specs.Gathering.{keptArray, keptCount, heldBy, heldWith, gatheredWith, nothingGathered, Sized, Keeps}
+use Rattle.stamps.specs.Gathering.{keptArray, keptCount, arrayWith, countWith, heldBy, heldWith, gatheredWith, nothingGathered, Keeps}
 
 -- ---- one channel
 module _ (most count : ℕ) (array xs : List Record) (r : Record) (h : HoldsMost most count array xs) (long : length array ≡ most) where
@@ -58,68 +57,60 @@ module _ (most count : ℕ) (array xs : List Record) (r : Record) (h : HoldsMost
   keep-long = split (ltb count most) (λ t. rw t (length-set array count r ∙ long)) (λ t. rw t long)
 
 -- ---- each channel of the records
-module _ (b : Board) (p : List Record) (r : Record) where
-  own : (c : Channel) (v : Event) → r .event ≡ v → of (head b) c (p ++ (r ∷ [])) ≡ of (head b) c p ++ keep (same c (channelOf v)) r []
+count-by : (c d : Channel) (h : Held) (r : Record) → countWith c d h ≡ countOf (heldBy d h r) c
+count-by F d h r = refl
+count-by E d h r = refl
+count-by L d h r = refl
+
+array-by : (c d : Channel) (h : Held) (r : Record) → arrayWith c d h r ≡ arrayOf (heldBy d h r) c
+array-by F d h r = refl
+array-by E d h r = refl
+array-by L d h r = refl
+
+module _ (b : Board) (p : List Record) (r : Record) (g : Gathered) (k : Keeps b g p) where
+  -- what is held of the channel c, whether the record is of this channel or not
+  one-held : (c : Channel) (t : Bool) →
+      HoldsMost (most c) (pick t (keptCount (most c) (countOf (g .held) c)) (countOf (g .held) c)) (pick t (keptArray (most c) (arrayOf (g .held) c) (countOf (g .held) c) r) (arrayOf (g .held) c)) (of (onMachine b) c p ++ keep t r [])
+  unfolding keep
+  one-held c true = keep-most (most c) _ _ _ r (k .held c) (k .sized .held c)
+  one-held c false = subst (HoldsMost (most c) (countOf (g .held) c) (arrayOf (g .held) c)) (sym (append-nil _)) (k .held c)
+
+  held-by : Holds b (heldWith (g .held) r) (p ++ (r ∷ []))
   unfolding filter
-  own c v e = filter-append _ p (r ∷ []) ∙ ap (λ (x : Event). of (head b) c p ++ keep (same c (channelOf x)) r []) e
+  held-by c =
+      subst (HoldsMost (most c) _ _) (sym (filter-append _ p (r ∷ [])))
+      (subst₂ (λ (n : ℕ) (xs : List Record). HoldsMost (most c) n xs (of (onMachine b) c p ++ keep (same c (channelOf (r .event))) r [])) (count-by c (channelOf (r .event)) (g .held) r) (array-by c (channelOf (r .event)) (g .held) r)
+      (one-held c (same c (channelOf (r .event)))))
 
-  other : (c : Channel) (v : Event) → r .event ≡ v → same c (channelOf v) ≡ false → of (head b) c p ≡ of (head b) c (p ++ (r ∷ []))
-  unfolding keep
-  other c v e f = sym (own c v e ∙ ap (λ (t : Bool). of (head b) c p ++ keep t r []) f ∙ append-nil (of (head b) c p))
+  one-long : (c : Channel) (t : Bool) → length (pick t (keptArray (most c) (arrayOf (g .held) c) (countOf (g .held) c) r) (arrayOf (g .held) c)) ≡ most c
+  one-long c true = keep-long (most c) (countOf (g .held) c) (arrayOf (g .held) c) _ r (k .held c) (k .sized .held c)
+  one-long c false = k .sized .held c
 
-  mine : (c : Channel) (v : Event) → r .event ≡ v → same c (channelOf v) ≡ true → of (head b) c p ++ (r ∷ []) ≡ of (head b) c (p ++ (r ∷ []))
-  unfolding keep
-  mine c v e f = sym (own c v e ∙ ap (λ (t : Bool). of (head b) c p ++ keep t r []) f)
+  pub keeps-one : (next : ℕ) → Keeps b (gatheredWith g r next) (p ++ (r ∷ []))
+  keeps-one next = record {
+    sized = record {
+      held = λ c. ap length (sym (array-by c (channelOf (r .event)) (g .held) r)) ∙ one-long c (same c (channelOf (r .event)));
+      records = keep-long mostInAll (g .count) (g .records) _ r (k .written) (k .sized .records);
+    };
+    held = held-by;
+    written = keep-most mostInAll _ _ _ r (k .written) (k .sized .records);
+  }
 
-  module _ (g : Gathered) (k : Keeps b g p) where
-    held-by : (v : Event) → r .event ≡ v → Holds b (heldBy v (g .held) r) (p ++ (r ∷ []))
-    held-by (event.Flash e) q = record {
-      flash = subst (HoldsMost 8 _ _) (mine F (event.Flash e) q refl) (keep-most 8 _ _ _ r (k .held .flash) (k .sized .flash));
-      eeprom = subst (HoldsMost 8 _ _) (other E (event.Flash e) q refl) (k .held .eeprom);
-      lines = subst (HoldsMost 2 _ _) (other L (event.Flash e) q refl) (k .held .lines);
-    }
-    held-by (event.Eeprom e) q = record {
-      flash = subst (HoldsMost 8 _ _) (other F (event.Eeprom e) q refl) (k .held .flash);
-      eeprom = subst (HoldsMost 8 _ _) (mine E (event.Eeprom e) q refl) (keep-most 8 _ _ _ r (k .held .eeprom) (k .sized .eeprom));
-      lines = subst (HoldsMost 2 _ _) (other L (event.Eeprom e) q refl) (k .held .lines);
-    }
-    held-by (event.Line e) q = record {
-      flash = subst (HoldsMost 8 _ _) (other F (event.Line e) q refl) (k .held .flash);
-      eeprom = subst (HoldsMost 8 _ _) (other E (event.Line e) q refl) (k .held .eeprom);
-      lines = subst (HoldsMost 2 _ _) (mine L (event.Line e) q refl) (keep-most 2 _ _ _ r (k .held .lines) (k .sized .lines));
-    }
+-- ---- nothing is gathered
+none-held : (b : Board) → Holds b (nothingGathered .held) []
+unfolding filter
+none-held b F = record { counts = refl; holds = refl }
+none-held b E = record { counts = refl; holds = refl }
+none-held b L = record { counts = refl; holds = refl }
 
-    sized-by : (v : Event) (next : ℕ) → Sized (record { held = heldBy v (g .held) r; records = keptArray 18 (g .records) (g .count) r; count = keptCount 18 (g .count); next = next })
-    sized-by (event.Flash e) next = record {
-      flash = keep-long 8 (g .held .«flash_count») (g .held .flash) _ r (k .held .flash) (k .sized .flash);
-      eeprom = k .sized .eeprom;
-      lines = k .sized .lines;
-      records = keep-long 18 (g .count) (g .records) _ r (k .written) (k .sized .records);
-    }
-    sized-by (event.Eeprom e) next = record {
-      flash = k .sized .flash;
-      eeprom = keep-long 8 (g .held .«eeprom_count») (g .held .eeprom) _ r (k .held .eeprom) (k .sized .eeprom);
-      lines = k .sized .lines;
-      records = keep-long 18 (g .count) (g .records) _ r (k .written) (k .sized .records);
-    }
-    sized-by (event.Line e) next = record {
-      flash = k .sized .flash;
-      eeprom = k .sized .eeprom;
-      lines = keep-long 2 (g .held .«line_count») (g .held .lines) _ r (k .held .lines) (k .sized .lines);
-      records = keep-long 18 (g .count) (g .records) _ r (k .written) (k .sized .records);
-    }
-
-    pub keeps-one : (next : ℕ) → Keeps b (gatheredWith g r next) (p ++ (r ∷ []))
-    keeps-one next = record {
-      sized = sized-by (r .event) next;
-      held = held-by (r .event) refl;
-      written = keep-most 18 _ _ _ r (k .written) (k .sized .records);
-    }
+none-long : (c : Channel) → length (arrayOf (nothingGathered .held) c) ≡ most c
+none-long F = refl
+none-long E = refl
+none-long L = refl
 
 pub keeps-none : (b : Board) → Keeps b nothingGathered []
-unfolding filter
 keeps-none b = record {
-  sized = record { flash = refl; eeprom = refl; lines = refl; records = refl };
-  held = record { flash = record { counts = refl; holds = refl }; eeprom = record { counts = refl; holds = refl }; lines = record { counts = refl; holds = refl } };
+  sized = record { held = none-long; records = refl };
+  held = none-held b;
   written = record { counts = refl; holds = refl };
 }

@@ -1,24 +1,23 @@
 -- The loop of `gather`: what one turn takes, and how it ends.
 use mathlib.Core.Path.{_≡_, refl, sym, ap, subst, _∙_}
-use mathlib.Core.Logic.{_⊎_, inl, inr}
+use mathlib.Core.Logic.{inl, inr}
 use mathlib.Core.List.{List, [], _∷_, _++_, append-nil, append-assoc}
 use Prim.Native.Nat.{ℕ, _+_, _≤_, _<_}
 use native.Mathlib.Omega.{arith}
 use lib.ListN.{length, drop}
-use Rattle.law.specs.Choice.{true-not-false}
-use Rattle.meaning.specs.Lists.{All, all-append}
+use Rattle.law.specs.Lists.{All, all-append}
 use Rattle.record.specs.declared.Record.{Record}
 use Rattle.record.specs.declared.Board.{Board}
 use Rattle.field.specs.declared.Cursor.{Cursor}
-use Rattle.field.proofs.Reading.{Got, got-one}
+use Rattle.field.proofs.Reading.{got-one}
 use Rattle.line.specs.declared.records.ReadRecord.{ReadRecord}
-use Rattle.line.specs.Records.{spelled, RecordOk, ReadsRecord}
+use Rattle.line.specs.Records.{RecordOk, ReadsRecord}
 use Rattle.line.proofs.Apart.{tells-record}
-use Rattle.text.specs.Texts.{spelledAll, AllOk}
+use Rattle.text.specs.Texts.{spelledAll}
 use Rattle.text.proofs.Standing.{got-record-place}
 use Rattle.text.proofs.Theorems.{step, at-end, not-at-end}
 use Rattle.stamps.specs.declared.Gathered.{Gathered}
-use Rattle.stamps.specs.Gathering.{noRecord, gatheredWith, Keeps, Taken, Over, Gathers}
+use Rattle.stamps.specs.Gathering.{noRecord, gatheredWith, Keeps, Taken, Gathers}
 use Rattle.stamps.proofs.Keeping.{keeps-one}
 
 -- ---- what was read
@@ -41,11 +40,11 @@ pub record Next (text : List ℕ) (at : ℕ) (rs : List Record) (a : ReadRecord)
   pub is : rs ≡ r ∷ rest
   pub read : recordOf a ≡ r
   pub some : a ≡ ReadRecord.Bad → ⊥
-  pub ok : AllOk rest
+  pub ok : All RecordOk rest
   pub left : drop (placeOf a) text ≡ spelledAll rest
 
-pub next-of : (text : List ℕ) (at : ℕ) (rs : List Record) (a : ReadRecord) → AllOk rs → drop at text ≡ spelledAll rs → at < length text → ReadsRecord text at a → Next text at rs a
-unfolding AllOk
+pub next-of : (text : List ℕ) (at : ℕ) (rs : List Record) (a : ReadRecord) → All RecordOk rs → drop at text ≡ spelledAll rs → at < length text → ReadsRecord text at a → Next text at rs a
+unfolding All
 next-of text at [] a o e l d = absurd (not-at-end text at [] e l refl)
 next-of text at (r ∷ rs) a o e l d =
     let s = step text at r rs a (o .0) e d in
@@ -67,7 +66,7 @@ read-place text at a r c d e = got-record-place (got-one tells-record d r (c .at
 pub record Gathering (text : List ℕ) (t : ℕ) (first g : Gathered) : Type 0 where
   pub onward : first .next ≤ g .next
   pub inside : first .next ≤ length text → g .next ≤ length text
-  pub taken : (b : Board) (p rs : List Record) → AllOk rs → drop (first .next) text ≡ spelledAll rs → Keeps b first p →
+  pub taken : (b : Board) (p rs : List Record) → All RecordOk rs → drop (first .next) text ≡ spelledAll rs → Keeps b first p →
       (k : Taken text t rs (g .next)) × Keeps b g (p ++ k .q)
 
 pub gathering-starts : (text : List ℕ) (t : ℕ) (first : Gathered) → Gathering text t first first

@@ -6,15 +6,19 @@ use Prim.Native.Nat.{ℕ, _+_, _≤_}
 use lib.Dec.{ltb}
 use lib.ListN.{length, drop, set, replicate}
 use Rattle.law.specs.Choice.{pick}
-use Rattle.meaning.specs.Lists.{All}
+use Rattle.law.specs.Lists.{All}
+use Rattle.meaning.specs.Meaning.{Channel, F, E, L, same, most}
+use Rattle.meaning.specs.Sums.{mostInAll}
 use Rattle.record.specs.declared.Record.{Record}
 use Rattle.record.specs.declared.Board.{Board}
-use Rattle.record.specs.declared.Event.{Event}
 use Rattle.record.specs.declared.Event.the-variants as event
 use Rattle.record.specs.declared.LineEvent.the-variants.{SupplyOn}
+use Rattle.line.specs.Records.{RecordOk}
 use Rattle.orders.specs.declared.Held.{Held}
-use Rattle.text.specs.Texts.{spelledAll, AllOk}
-use Rattle.verdict.specs.Verdict.{HoldsMost, Holds}
+use Rattle.orders.specs.Verdicts.{countOf, arrayOf}
+use Rattle.machine.specs.Machine.{channelOf}
+use Rattle.text.specs.Texts.{spelledAll}
+use Rattle.enough.specs.Enough.{HoldsMost, Holds}
 use Rattle.stamps.specs.declared.Gathered.{Gathered}
 
 -- one record more in an array of so many, of which `count` are used
@@ -24,48 +28,26 @@ keptArray most array count r = pick (ltb count most) (set array count r) array
 abbrev pub keptCount : ℕ → ℕ → ℕ
 keptCount most count = pick (ltb count most) (count + 1) (most + 1)
 
--- one record more of a channel
-abbrev pub flashKept : Held → Record → Held
-flashKept h r =
-    record {
-      flash = keptArray 8 (h .flash) (h .«flash_count») r;
-      «flash_count» = keptCount 8 (h .«flash_count»);
-      eeprom = h .eeprom;
-      «eeprom_count» = h .«eeprom_count»;
-      lines = h .lines;
-      «line_count» = h .«line_count»;
-    }
+-- what is held of the channel c after one record more, of the channel d
+abbrev pub arrayWith : Channel → Channel → Held → Record → List Record
+arrayWith c d h r = pick (same c d) (keptArray (most c) (arrayOf h c) (countOf h c) r) (arrayOf h c)
 
-abbrev pub eepromKept : Held → Record → Held
-eepromKept h r =
-    record {
-      flash = h .flash;
-      «flash_count» = h .«flash_count»;
-      eeprom = keptArray 8 (h .eeprom) (h .«eeprom_count») r;
-      «eeprom_count» = keptCount 8 (h .«eeprom_count»);
-      lines = h .lines;
-      «line_count» = h .«line_count»;
-    }
+abbrev pub countWith : Channel → Channel → Held → ℕ
+countWith c d h = pick (same c d) (keptCount (most c) (countOf h c)) (countOf h c)
 
-abbrev pub lineKept : Held → Record → Held
-lineKept h r =
-    record {
-      flash = h .flash;
-      «flash_count» = h .«flash_count»;
-      eeprom = h .eeprom;
-      «eeprom_count» = h .«eeprom_count»;
-      lines = keptArray 2 (h .lines) (h .«line_count») r;
-      «line_count» = keptCount 2 (h .«line_count»);
-    }
+abbrev pub heldBy : Channel → Held → Record → Held
+heldBy d h r = record {
+  flash = arrayWith F d h r;
+  «flash_count» = countWith F d h;
+  eeprom = arrayWith E d h r;
+  «eeprom_count» = countWith E d h;
+  lines = arrayWith L d h r;
+  «line_count» = countWith L d h;
+}
 
 -- a record goes to its channel
-abbrev pub heldBy : Event → Held → Record → Held
-heldBy (event.Flash e) h r = flashKept h r
-heldBy (event.Eeprom e) h r = eepromKept h r
-heldBy (event.Line e) h r = lineKept h r
-
 abbrev pub heldWith : Held → Record → Held
-heldWith h r = heldBy (r .event) h r
+heldWith h r = heldBy (channelOf (r .event)) h r
 
 -- a record that stands for none
 abbrev pub noRecord : Record
@@ -74,39 +56,37 @@ noRecord = record { stamp = 0; event = event.Line SupplyOn }
 abbrev pub nothingGathered : Gathered
 nothingGathered = record {
   held = record {
-    flash = replicate 8 noRecord;
+    flash = replicate (most F) noRecord;
     «flash_count» = 0;
-    eeprom = replicate 8 noRecord;
+    eeprom = replicate (most E) noRecord;
     «eeprom_count» = 0;
-    lines = replicate 2 noRecord;
+    lines = replicate (most L) noRecord;
     «line_count» = 0;
   };
-  records = replicate 18 noRecord;
+  records = replicate mostInAll noRecord;
   count = 0;
   next = 0;
 }
 
--- one record more, the next one's place is given; a stamp that is not crowded has 18 at the most
+-- one record more, the next one's place is given; a stamp that is not crowded has no more than `mostInAll`
 abbrev pub gatheredWith : Gathered → Record → ℕ → Gathered
 gatheredWith g r next = record {
   held = heldWith (g .held) r;
-  records = keptArray 18 (g .records) (g .count) r;
-  count = keptCount 18 (g .count);
+  records = keptArray mostInAll (g .records) (g .count) r;
+  count = keptCount mostInAll (g .count);
   next = next;
 }
 
 -- the arrays have the lengths that they are declared with
 pub record Sized (g : Gathered) : Type 0 where
-  pub flash : length (g .held .flash) ≡ 8
-  pub eeprom : length (g .held .eeprom) ≡ 8
-  pub lines : length (g .held .lines) ≡ 2
-  pub records : length (g .records) ≡ 18
+  pub held : (c : Channel) → length (arrayOf (g .held) c) ≡ most c
+  pub records : length (g .records) ≡ mostInAll
 
 -- the records p are gathered
 pub record Keeps (b : Board) (g : Gathered) (p : List Record) : Type 0 where
   pub sized : Sized g
   pub held : Holds b (g .held) p
-  pub written : HoldsMost 18 (g .count) (g .records) p
+  pub written : HoldsMost mostInAll (g .count) (g .records) p
 
 -- of the records rs that stand from a place on, those of the stamp t are q; rest is left from the place `next` on
 pub record Taken (text : List ℕ) (t : ℕ) (rs : List Record) (next : ℕ) : Type 0 where
@@ -114,7 +94,7 @@ pub record Taken (text : List ℕ) (t : ℕ) (rs : List Record) (next : ℕ) : T
   pub rest : List Record
   pub whole : rs ≡ q ++ rest
   pub same : All (λ (r : Record). r .stamp ≡ t) q
-  pub ok : AllOk rest
+  pub ok : All RecordOk rest
   pub left : drop next text ≡ spelledAll rest
 
 -- what comes next is of another stamp, if anything does
@@ -125,5 +105,5 @@ pub record Over (t : ℕ) (rest : List Record) : Type 0 where
 pub record Gathers (text : List ℕ) (t : ℕ) (first g : Gathered) : Type 0 where
   pub onward : first .next ≤ g .next
   pub inside : first .next ≤ length text → g .next ≤ length text
-  pub taken : (b : Board) (p rs : List Record) → AllOk rs → drop (first .next) text ≡ spelledAll rs → Keeps b first p →
+  pub taken : (b : Board) (p rs : List Record) → All RecordOk rs → drop (first .next) text ≡ spelledAll rs → Keeps b first p →
       (k : Taken text t rs (g .next)) × Keeps b g (p ++ k .q) × Over t (k .rest)

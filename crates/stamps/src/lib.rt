@@ -1,8 +1,10 @@
 // One stamp of a text: its records are read, held together and judged, before anything is played.
 ghost use mathlib.Core.Path.{_≡_};
-ghost use Rattle.stamps.specs.Gathering.{keptArray, keptCount, flashKept, eepromKept, lineKept, heldWith, gatheredWith, nothingGathered, Gathers};
+ghost use Rattle.meaning.specs.Meaning.{F, E, L, most};
+ghost use Rattle.meaning.specs.Sums.{mostInAll};
+ghost use Rattle.stamps.specs.Gathering.{keptArray, keptCount, heldBy, heldWith, gatheredWith, nothingGathered, Gathers};
 ghost use Rattle.stamps.specs.Judging.{JudgesAt};
-use board::Controls;
+use controls::Controls;
 use line::ReadRecord;
 use orders::Held;
 use orders::Verdict;
@@ -14,87 +16,87 @@ use record::Record;
 // The records of one stamp by channel and as they are written, and the place after them.
 pub struct Gathered {
     pub held: Held,
-    pub records: [Record; 18],
+    pub records: [Record; orders::MOST_IN_ALL],
     pub count: usize,
     pub next: usize,
 }
 
-struct Eight {
-    array: [Record; 8],
+struct KeptBus {
+    array: [Record; orders::MOST_BUS],
     count: usize,
 }
 
-struct Two {
-    array: [Record; 2],
+struct KeptLine {
+    array: [Record; orders::MOST_LINE],
     count: usize,
 }
 
-// One record more of a channel that may have 8; the count says 9 where there are more.
-fn keep_eight(array: [Record; 8], count: usize, rec: Record) -> Eight
-    ensures { λ r. ⌜ r ≡ record { array = keptArray 8 array count rec; count = keptCount 8 count } ⌝ }
+// One record more of a bus; the count says one more than the most where there are more.
+fn keep_bus(array: [Record; orders::MOST_BUS], count: usize, rec: Record) -> KeptBus
+    ensures { λ r. ⌜ r ≡ record { array = keptArray (most F) array count rec; count = keptCount (most F) count } ⌝ }
 {
     let mut next = array;
-    if count < 8 {
+    if count < orders::MOST_BUS {
         next[count] = rec;
-        return Eight {
+        return KeptBus {
             array: next,
             count: count + 1,
         };
     }
-    Eight {
+    KeptBus {
         array: next,
-        count: 9,
+        count: orders::MOST_BUS + 1,
     }
 }
 
-// The same of one that may have 2.
-fn keep_two(array: [Record; 2], count: usize, rec: Record) -> Two
-    ensures { λ r. ⌜ r ≡ record { array = keptArray 2 array count rec; count = keptCount 2 count } ⌝ }
+// The same of the lines.
+fn keep_line(array: [Record; orders::MOST_LINE], count: usize, rec: Record) -> KeptLine
+    ensures { λ r. ⌜ r ≡ record { array = keptArray (most L) array count rec; count = keptCount (most L) count } ⌝ }
 {
     let mut next = array;
-    if count < 2 {
+    if count < orders::MOST_LINE {
         next[count] = rec;
-        return Two {
+        return KeptLine {
             array: next,
             count: count + 1,
         };
     }
-    Two {
+    KeptLine {
         array: next,
-        count: 3,
+        count: orders::MOST_LINE + 1,
     }
 }
 
-struct Eighteen {
-    array: [Record; 18],
+struct KeptInAll {
+    array: [Record; orders::MOST_IN_ALL],
     count: usize,
 }
 
-// The same of all that a stamp may have.
-fn keep_eighteen(array: [Record; 18], count: usize, rec: Record) -> Eighteen
-    ensures { λ r. ⌜ r ≡ record { array = keptArray 18 array count rec; count = keptCount 18 count } ⌝ }
+// The same of all that share the stamp.
+fn keep_in_all(array: [Record; orders::MOST_IN_ALL], count: usize, rec: Record) -> KeptInAll
+    ensures { λ r. ⌜ r ≡ record { array = keptArray mostInAll array count rec; count = keptCount mostInAll count } ⌝ }
 {
     let mut next = array;
-    if count < 18 {
+    if count < orders::MOST_IN_ALL {
         next[count] = rec;
-        return Eighteen {
+        return KeptInAll {
             array: next,
             count: count + 1,
         };
     }
-    Eighteen {
+    KeptInAll {
         array: next,
-        count: 19,
+        count: orders::MOST_IN_ALL + 1,
     }
 }
 
 fn hold_flash(held: Held, rec: Record) -> Held
-    ensures { λ r. ⌜ r ≡ flashKept held rec ⌝ }
+    ensures { λ r. ⌜ r ≡ heldBy F held rec ⌝ }
 {
     let flash = held.flash;
     let eeprom = held.eeprom;
     let lines = held.lines;
-    let kept = keep_eight(flash, held.flash_count, rec);
+    let kept = keep_bus(flash, held.flash_count, rec);
     let array = kept.array;
     Held {
         flash: array,
@@ -107,12 +109,12 @@ fn hold_flash(held: Held, rec: Record) -> Held
 }
 
 fn hold_eeprom(held: Held, rec: Record) -> Held
-    ensures { λ r. ⌜ r ≡ eepromKept held rec ⌝ }
+    ensures { λ r. ⌜ r ≡ heldBy E held rec ⌝ }
 {
     let flash = held.flash;
     let eeprom = held.eeprom;
     let lines = held.lines;
-    let kept = keep_eight(eeprom, held.eeprom_count, rec);
+    let kept = keep_bus(eeprom, held.eeprom_count, rec);
     let array = kept.array;
     Held {
         flash: flash,
@@ -125,12 +127,12 @@ fn hold_eeprom(held: Held, rec: Record) -> Held
 }
 
 fn hold_line(held: Held, rec: Record) -> Held
-    ensures { λ r. ⌜ r ≡ lineKept held rec ⌝ }
+    ensures { λ r. ⌜ r ≡ heldBy L held rec ⌝ }
 {
     let flash = held.flash;
     let eeprom = held.eeprom;
     let lines = held.lines;
-    let kept = keep_two(lines, held.line_count, rec);
+    let kept = keep_line(lines, held.line_count, rec);
     let array = kept.array;
     Held {
         flash: flash,
@@ -160,7 +162,7 @@ fn gather_one(g: Gathered, rec: Record, next: usize) -> Gathered
 {
     let held = g.held;
     let records = g.records;
-    let kept = keep_eighteen(records, g.count, rec);
+    let kept = keep_in_all(records, g.count, rec);
     let array = kept.array;
     let more = hold(held, rec);
     Gathered {
@@ -179,16 +181,16 @@ fn none_gathered() -> Gathered
         event: Event::Line(LineEvent::SupplyOn),
     };
     let held = Held {
-        flash: [none; 8],
+        flash: [none; orders::MOST_BUS],
         flash_count: 0,
-        eeprom: [none; 8],
+        eeprom: [none; orders::MOST_BUS],
         eeprom_count: 0,
-        lines: [none; 2],
+        lines: [none; orders::MOST_LINE],
         line_count: 0,
     };
     Gathered {
         held: held,
-        records: [none; 18],
+        records: [none; orders::MOST_IN_ALL],
         count: 0,
         next: 0,
     }
@@ -215,7 +217,7 @@ fn gather(text: &[u8], first: Gathered, stamp: u32) -> Gathered
 // What is found at the stamp of the record at a place, its records as they are written, and the place after them.
 pub struct Judgement {
     pub verdict: Verdict,
-    pub records: [Record; 18],
+    pub records: [Record; orders::MOST_IN_ALL],
     pub count: usize,
     pub next: usize,
     pub stamp: u32,

@@ -3,30 +3,41 @@ use Prim.Native.Nat.{ℕ, _+_, _≤_}
 use native.Mathlib.Omega.{arith}
 use mathlib.Core.Path.{_≡_, refl, sym, ap, ap₂, subst, _∙_}
 use mathlib.Core.List.{List, [], _∷_, _++_, append-assoc, append-nil}
-use lib.ListN.{length, drop, length-append}
+use lib.ListN.{length, drop}
 use lib.Seq.{drop-append-seam}
+use Rattle.law.specs.Lists.{All, all-append, RisingFrom, from-rising, rising-from}
 use Rattle.record.specs.declared.Record.{Record}
 use Rattle.line.specs.Records.{spelled, RecordOk}
 use Rattle.line.proofs.Theorems.{one-record}
 use Rattle.text.specs.declared.buses.Buses.{Buses}
 use Rattle.text.specs.declared.buses.Moves.{Moves}
-use Rattle.text.specs.Buses.{allClosed, onwards, after, busesAfter, Possible}
-use Rattle.text.specs.Stamps.{NeverBack, lastStamp}
-use Rattle.text.specs.Texts.{spelledAll, AllOk, Acceptable}
+use Rattle.text.specs.Buses.{allClosed, onwards, after, Possible}
+use Rattle.text.specs.Stamps.{lastStamp}
+use Rattle.text.specs.Texts.{spelledAll, Acceptable}
 
 pub never : {b : Buses} → Moves.Impossible ≡ Moves.To b → ⊥
 never e = let z : _≡_ {A = ℕ} 0 1 = cc in omega arith
 
+-- by neighbours: t is the stamp before the list
+abbrev pub StampsFrom : ℕ → List Record → Type 0
+StampsFrom t rs = RisingFrom (λ (r : Record). r .stamp) t rs
+
 pub record Good (t : ℕ) (m : Moves) (rs : List Record) : Type 0 where
-  pub fits : AllOk rs
-  pub rising : NeverBack t rs
+  pub fits : All RecordOk rs
+  pub rising : StampsFrom t rs
   pub possible : Possible (after m rs)
 
-pub good-of : {rs : List Record} → AllOk rs → Acceptable rs → Good 0 (Moves.To allClosed) rs
-good-of o a = record { fits = o; rising = a .never-back; possible = a .possible }
+-- the first record may have any stamp
+from-zero : (rs : List Record) → All (λ (r : Record). 0 ≤ r .stamp) rs
+unfolding All
+from-zero [] = tt
+from-zero (r ∷ rs) = (omega arith, from-zero rs)
+
+pub good-of : {rs : List Record} → All RecordOk rs → Acceptable rs → Good 0 (Moves.To allClosed) rs
+good-of {rs} o a = record { fits = o; rising = rising-from (λ (r : Record). r .stamp) 0 rs (from-zero rs) (a .never-back); possible = a .possible }
 
 pub acceptable-of : {rs : List Record} → Good 0 (Moves.To allClosed) rs → Acceptable rs
-acceptable-of g = record { never-back = g .rising; possible = g .possible }
+acceptable-of {rs} g = record { never-back = from-rising (λ (r : Record). r .stamp) 0 rs (g .rising); possible = g .possible }
 
 -- ---- beginnings
 after-impossible : (rs : List Record) → after Moves.Impossible rs ≡ Moves.Impossible
@@ -40,11 +51,11 @@ possible-first Moves.Impossible rs p = absurd (never (sym (after-impossible rs) 
 
 module _ {t : ℕ} {m : Moves} {r : Record} {rs : List Record} (g : Good t m (r ∷ rs)) where
   pub good-first : RecordOk r
-  unfolding AllOk
+  unfolding All
   good-first = g .fits .0
 
   pub good-stamp : t ≤ r .stamp
-  unfolding NeverBack
+  unfolding RisingFrom
   good-stamp = g .rising .0
 
   pub good-next : Possible (onwards m (r .event))
@@ -52,15 +63,15 @@ module _ {t : ℕ} {m : Moves} {r : Record} {rs : List Record} (g : Good t m (r 
   good-next = possible-first (onwards m (r .event)) rs (g .possible)
 
   pub good-tail : Good (r .stamp) (onwards m (r .event)) rs
-  unfolding AllOk NeverBack after
+  unfolding All RisingFrom after
   good-tail = record { fits = g .fits .1; rising = g .rising .1; possible = g .possible }
 
 pub good-none : (t : ℕ) (b : Buses) → Good t (Moves.To b) []
-unfolding AllOk NeverBack after
+unfolding All RisingFrom after
 good-none t b = record { fits = tt; rising = tt; possible = (b, refl) }
 
 pub good-one : {t : ℕ} {m : Moves} {r : Record} → RecordOk r → t ≤ r .stamp → Possible (onwards m (r .event)) → Good t m (r ∷ [])
-unfolding AllOk NeverBack after
+unfolding All RisingFrom after
 good-one o h p = record { fits = (o, tt); rising = (h, tt); possible = p }
 
 -- ---- one record more
@@ -74,13 +85,12 @@ unfolding lastStamp
 last-snoc t [] r = refl
 last-snoc t (x ∷ rs) r = last-snoc (x .stamp) rs r
 
-fits-snoc : (rs : List Record) (r : Record) → AllOk rs → RecordOk r → AllOk (rs ++ (r ∷ []))
-unfolding AllOk
-fits-snoc [] r o p = (p, tt)
-fits-snoc (x ∷ rs) r o p = (o .0, fits-snoc rs r (o .1) p)
+fits-snoc : (rs : List Record) (r : Record) → All RecordOk rs → RecordOk r → All RecordOk (rs ++ (r ∷ []))
+unfolding All
+fits-snoc rs r o p = all-append RecordOk rs (r ∷ []) o (p, tt)
 
-rising-snoc : (t : ℕ) (rs : List Record) (r : Record) → NeverBack t rs → lastStamp t rs ≤ r .stamp → NeverBack t (rs ++ (r ∷ []))
-unfolding NeverBack lastStamp
+rising-snoc : (t : ℕ) (rs : List Record) (r : Record) → StampsFrom t rs → lastStamp t rs ≤ r .stamp → StampsFrom t (rs ++ (r ∷ []))
+unfolding RisingFrom lastStamp
 rising-snoc t [] r n h = (h, tt)
 rising-snoc t (x ∷ rs) r n h = (n .0, rising-snoc (x .stamp) rs r (n .1) h)
 

@@ -1,9 +1,9 @@
 -- A text has one reading: it is readable in one way, or refused in one way, and not both.
-use Prim.Native.Nat.{ℕ, _+_, _≤_, _<_}
+use Prim.Native.Nat.{ℕ, _+_, _<_}
 use native.Mathlib.Omega.{arith}
 use mathlib.Core.Path.{_≡_, refl, sym, ap, subst, _∙_}
-use mathlib.Core.Logic.{_⊎_, inl, inr, ⊎-elim}
-use mathlib.Core.List.{List, [], _∷_, _++_, append-assoc, append-nil}
+use mathlib.Core.Logic.{inl, inr}
+use mathlib.Core.List.{List, [], _++_, append-assoc, append-nil}
 use lib.ListN.{length, drop, length-append}
 use lib.Seq.{drop-append-seam}
 use Rattle.record.specs.declared.Record.{Record}
@@ -17,9 +17,8 @@ use Rattle.line.proofs.OutputLaws.{spelled-length-min}
 use Rattle.line.proofs.Theorems.{one-board, record-same}
 use Rattle.text.specs.declared.buses.Moves.{Moves}
 use Rattle.text.specs.declared.checking.Checked.{Checked}
-use Rattle.text.specs.Buses.{allClosed, onwards, busesAfter, ImpossibleAfter}
-use Rattle.text.specs.Stamps.{lastStamp}
-use Rattle.text.specs.Texts.{spelledAll, spelledTrace, AllOk, Acceptable, Readable, Front, Wrong, Refused, Checks}
+use Rattle.text.specs.Buses.{allClosed, onwards, busesAfter}
+use Rattle.text.specs.Texts.{spelledAll, spelledTrace, Readable, Front, Wrong, Refused, Checks}
 use Rattle.text.specs.Texts.Wrong.{noRecord, falls, cannot}
 use Rattle.text.specs.Texts.Refused.{noBoard, badLine}
 use Rattle.text.proofs.Goods.{Good, good-of, good-first, good-stamp, good-next, never, Stop, agree}

@@ -1,10 +1,10 @@
 -- Where the check stands after each line: the records so far are good and stand at the front.
 use Prim.Native.Nat.{ℕ, _+_, _≤_, _<_}
 use native.Mathlib.Omega.{arith}
-use native.Mathlib.Nat.{add-assoc, zero-add}
+use native.Mathlib.Nat.{zero-add}
 use mathlib.Core.Path.{_≡_, refl, sym, ap, subst, _∙_}
 use mathlib.Core.List.{List, [], _∷_, _++_, append-assoc, append-nil}
-use lib.ListN.{length, drop, length-append, length-drop}
+use lib.ListN.{length, length-append}
 use Rattle.record.specs.declared.Record.{Record}
 use Rattle.record.specs.declared.Board.{Board}
 use Rattle.record.specs.declared.Answer.{Answer}
@@ -57,8 +57,8 @@ so-start {text} {b} {p} g e = record {
   state = ap Moves.To (sym e);
 }
 
-pub got-board-place : {text : List ℕ} {b : Board} {p : ℕ} → Got spelledBoard BoardOk text 0 b p → (p ≡ 13) × (13 ≤ length text)
-got-board-place {text} {b} g = let l = board-length b in let s = stands-length text (spelledBoard b) 0 (g .stands) (omega arith) in (omega (arith, g .next), omega arith)
+pub got-board-place : {text : List ℕ} {b : Board} {p : ℕ} → Got spelledBoard BoardOk text 0 b p → (2 ≤ p) × (p ≤ length text)
+got-board-place {text} {b} g = let l = board-length b in let s = stands-length text (spelledBoard b) 0 (g .stands) (omega arith) in (omega (arith, g .next), omega (arith, g .next))
 
 pub got-record-place : {text : List ℕ} {at p : ℕ} {r : Record} → Got spelled RecordOk text at r p → (at + 7 ≤ p) × (p ≤ length text)
 got-record-place {text} {at} {p} {r} g =

@@ -1,23 +1,21 @@
 -- What follows for the replay: the answer of the check is determined, a readable text has few records, and they are stepped through one by one.
 use Prim.Native.Nat.{ℕ, _+_, _*_, _≤_, _<_}
 use native.Mathlib.Omega.{arith}
-use native.Mathlib.Nat.{zero-add}
-use mathlib.Core.Path.{_≡_, refl, sym, ap, subst, _∙_}
-use mathlib.Core.Logic.{_⊎_, inl, inr, ⊎-elim}
-use mathlib.Core.List.{List, [], _∷_, _++_}
-use lib.ListN.{length, drop, length-append, length-drop, drop-of-length-le}
+use mathlib.Core.Path.{_≡_, refl, sym, ap, _∙_}
+use mathlib.Core.Logic.{_⊎_, ⊎-elim}
+use mathlib.Core.List.{List, [], _∷_}
+use lib.ListN.{length, drop, length-append, length-drop}
 use lib.Seq.{drop-append-seam, drop-drop}
+use Rattle.law.specs.Lists.{All}
 use Rattle.record.specs.declared.Record.{Record}
 use Rattle.record.specs.declared.Board.{Board}
-use Rattle.record.specs.declared.Answer.{Answer}
-use Rattle.field.specs.declared.Cursor.{Cursor}
-use Rattle.field.specs.Reads.{Stands}
+use Rattle.record.specs.Lengths.{repliesLength}
 use Rattle.line.specs.declared.records.ReadRecord.{ReadRecord}
 use Rattle.line.specs.Records.{spelled, RecordOk, ReadsRecord}
 use Rattle.line.specs.Boards.{spelledBoard}
 use Rattle.line.proofs.OutputLaws.{spelled-length-min, board-length}
 use Rattle.text.specs.declared.checking.Checked.{Checked}
-use Rattle.text.specs.Texts.{textLimit, spelledAll, spelledTrace, AllOk, Readable, Refused, Checks}
+use Rattle.text.specs.Texts.{textLimit, spelledAll, spelledTrace, Readable, Checks}
 use Rattle.text.proofs.OneReading.{some}
 
 -- any two answers that the promise of `check_text` admits are equal
@@ -28,8 +26,8 @@ check-determined text r r′ c d =
     (c .only)
 
 -- ---- how many records there can be
-pub seven-each : (rs : List Record) → AllOk rs → 7 * length rs ≤ length (spelledAll rs)
-unfolding spelledAll AllOk
+pub seven-each : (rs : List Record) → All RecordOk rs → 7 * length rs ≤ length (spelledAll rs)
+unfolding spelledAll All
 seven-each [] o = omega arith
 seven-each (r ∷ rs) o = omega (arith, spelled-length-min r (o .0 .0), seven-each rs (o .1), length-append (spelled r) (spelledAll rs))
 
@@ -37,8 +35,8 @@ pub few-records : {text : List ℕ} {b : Board} {rs : List Record} → Readable 
 unfolding spelledTrace
 few-records {text} {b} {rs} q h = omega (arith, seven-each rs (q .fits), ap length (q .is), length-append (spelledBoard b) (spelledAll rs), board-length b)
 
--- four reply bytes for each fit into 40,000
-pub replies-fit : {text : List ℕ} {b : Board} {rs : List Record} → Readable text b rs → length text ≤ textLimit → 4 * length rs ≤ 40000
+-- four reply bytes for each fit into the replies
+pub replies-fit : {text : List ℕ} {b : Board} {rs : List Record} → Readable text b rs → length text ≤ textLimit → 4 * length rs ≤ repliesLength
 replies-fit q h = omega (arith, few-records q h)
 
 -- ---- stepping
@@ -61,8 +59,8 @@ module _ (text : List ℕ) (at : ℕ) where
   within r rs o e = omega (arith, some r o, ap length e, length-append (spelled r) (spelledAll rs), length-drop at text)
 
   -- at the end no record is left, and only there
-  pub at-end : (rs : List Record) → drop at text ≡ spelledAll rs → length text ≤ at → AllOk rs → rs ≡ []
-  unfolding AllOk
+  pub at-end : (rs : List Record) → drop at text ≡ spelledAll rs → length text ≤ at → All RecordOk rs → rs ≡ []
+  unfolding All
   at-end [] e h o = refl
   at-end (r ∷ rs) e h o = absurd (omega (arith, some r (o .0), within r rs (o .0) e))
 

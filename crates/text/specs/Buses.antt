@@ -3,7 +3,6 @@ use mathlib.Core.Path.{_≡_}
 use mathlib.Core.List.{List, [], _∷_}
 use Rattle.record.specs.declared.FlashEvent.{FlashEvent}
 use Rattle.record.specs.declared.EepromEvent.{EepromEvent}
-use Rattle.record.specs.declared.LineEvent.{LineEvent}
 use Rattle.record.specs.declared.Event.{Event}
 use Rattle.record.specs.declared.Record.{Record}
 use Rattle.text.specs.declared.buses.Bus.{Bus}

@@ -4,17 +4,17 @@ use mathlib.Core.Path.{_≡_}
 use mathlib.Core.Logic.{_⊎_}
 use mathlib.Core.List.{List, [], _∷_, _++_}
 use lib.ListN.{length}
+use Rattle.law.specs.Lists.{All, Rising}
 use Rattle.record.specs.declared.Record.{Record}
 use Rattle.record.specs.declared.Board.{Board}
 use Rattle.record.specs.declared.Answer.{Answer}
 use Rattle.record.specs.declared.Answer.the-variants.{BadLine, BackInTime, Impossible}
-use Rattle.field.specs.declared.Cursor.{Cursor}
 use Rattle.field.specs.Reads.{Stands}
 use Rattle.line.specs.Records.{spelled, RecordOk}
 use Rattle.line.specs.Boards.{spelledBoard, BoardOk}
 use Rattle.text.specs.declared.checking.Checked.{Checked}
 use Rattle.text.specs.Buses.{busesAfter, Possible, ImpossibleAfter}
-use Rattle.text.specs.Stamps.{NeverBack, lastStamp}
+use Rattle.text.specs.Stamps.{lastStamp}
 
 -- text of at most 65,536 bytes
 abbrev pub textLimit : ℕ
@@ -27,27 +27,22 @@ spelledAll (r ∷ rs) = spelled r ++ spelledAll rs
 unfoldable pub spelledTrace : Board → List Record → List ℕ
 spelledTrace b rs = spelledBoard b ++ spelledAll rs
 
--- what the types give of every record
-unfoldable pub AllOk : List Record → Type 0
-AllOk [] = Unit {0}
-AllOk (r ∷ rs) = RecordOk r × AllOk rs
-
--- no stamp is below the one before, and no record is impossible
+-- no stamp is below an earlier one, and no record is impossible
 pub record Acceptable (rs : List Record) : Type 0 where
-  pub never-back : NeverBack 0 rs
+  pub never-back : Rising (λ (r : Record). r .stamp) rs
   pub possible : Possible (busesAfter rs)
 
 -- the text is the spelling of a board in range and of acceptable records, and nothing more
 pub record Readable (text : List ℕ) (b : Board) (rs : List Record) : Type 0 where
   pub board : BoardOk b
-  pub fits : AllOk rs
+  pub fits : All RecordOk rs
   pub acceptable : Acceptable rs
   pub is : text ≡ spelledTrace b rs
 
 -- such a spelling stands at the front of the text
 pub record Front (text : List ℕ) (b : Board) (rs : List Record) : Type 0 where
   pub board : BoardOk b
-  pub fits : AllOk rs
+  pub fits : All RecordOk rs
   pub acceptable : Acceptable rs
   pub stands : Stands text 0 (spelledTrace b rs)
 

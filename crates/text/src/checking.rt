@@ -16,11 +16,14 @@ pub enum Checked {
     Refused(Answer, usize),
 }
 
+// The most bytes that a text may have.
+pub const LIMIT: usize = 65536;
+
 // Refusal 2.
 pub fn too_long(text: &[u8]) -> bool
     ensures { λ r. ⌜ r ≡ ltb textLimit (length (now (text .entry))) ⌝ }
 {
-    65536 < text.len()
+    LIMIT < text.len()
 }
 
 // Whether a text can be replayed, and where it can't, why and from which line on.

@@ -4,6 +4,7 @@ mod checking;
 mod reader;
 
 pub use checking::Checked;
+pub use checking::LIMIT;
 pub use checking::check_text;
 pub use checking::too_long;
 pub use reader::Reader;

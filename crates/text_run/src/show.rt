@@ -12,7 +12,7 @@ fn pair(before: &[u8], number: u32, second: usize) {
 }
 
 // The case's name, the refusal's number and its line.
-pub(crate) fn verdict(name: &[u8], text: &[u8]) {
+pub(crate) fn answer(name: &[u8], text: &[u8]) {
     io::write_all(1, name);
     io::write_all(1, b"\t");
     match text::check_text(text) {

@@ -1,4 +1,4 @@
 -- Records that share a stamp.
 pub mod Orders
 pub mod Control
-pub mod Images
+pub mod Parts

@@ -1,14 +1,12 @@
 -- What the call leaves, by what its tests said.
 use mathlib.Core.Path.{_≡_, refl, sym, ap, subst, _∙_}
 use mathlib.Core.Bool.{Bool, true, false}
-use mathlib.Core.Logic.{_⊎_}
 use mathlib.Core.List.{List}
 use Prim.Native.Nat.{ℕ}
 use lib.Dec.{ltb}
 use lib.ListN.{length, replicate}
 use Rattle.law.specs.Choice.{true-not-false}
 use Rattle.record.specs.declared.Board.{Board}
-use Rattle.record.specs.declared.Record.{Record}
 use Rattle.record.specs.declared.Answer.{Answer}
 use Rattle.record.specs.Answers.{answerNumber}
 use Rattle.field.specs.declared.Cursor.{Cursor}
@@ -16,7 +14,8 @@ use Rattle.image.specs.Images.{Images}
 use Rattle.line.specs.Boards.{spelledBoard}
 use Rattle.text.specs.declared.checking.Checked.{Checked}
 use Rattle.text.specs.Texts.{textLimit, Readable, Refused, Checks}
-use Rattle.buffers.specs.Buffers.{Buffers, repliesLength, resultLength, fit, resultBytes, resultAfter}
+use Rattle.record.specs.Lengths.{repliesLength, resultLength}
+use Rattle.buffers.specs.Buffers.{Buffers, fit, resultBytes, resultAfter}
 use Rattle.buffers.proofs.Result.{result-written}
 use Rattle.call.specs.Replay.{Ended, endedAs, refusedAs, Replays}
 use Rattle.call.specs.Run.{endedWith, Runs}

@@ -1,27 +1,27 @@
 -- The loop's turns, for whatever records the text is readable as.
 use mathlib.Core.Path.{_≡_, refl, sym, ap, subst, _∙_}
-use mathlib.Core.Bool.{Bool, true, false}
+use mathlib.Core.Bool.{true, false}
 use mathlib.Core.List.{List}
-use Prim.Native.Nat.{ℕ, _+_, _≤_, _<_, min}
+use Prim.Native.Nat.{ℕ, _≤_, _<_, min}
 use lib.ListN.{length, take, replicate}
 use Rattle.law.specs.Choice.{true-not-false}
+use Rattle.meaning.specs.Sums.{mostInAll}
 use Rattle.record.specs.declared.Board.{Board}
 use Rattle.record.specs.declared.Record.{Record}
 use Rattle.record.specs.declared.Answer.{Answer}
-use Rattle.board.specs.declared.Controls.{Controls}
-use Rattle.board.specs.Play.{startOf}
+use Rattle.controls.specs.declared.Controls.{Controls}
+use Rattle.controls.specs.Play.{startOf}
 use Rattle.image.specs.Images.{Images}
 use Rattle.line.specs.Boards.{spelledBoard}
 use Rattle.orders.specs.declared.Verdict.{Verdict}
 use Rattle.orders.specs.declared.Verdict.the-variants as verdict
 use Rattle.text.specs.Texts.{Readable, textLimit}
-use Rattle.text.proofs.Theorems.{few-records}
-use Rattle.buffers.specs.Buffers.{repliesLength}
+use Rattle.text.proofs.Theorems.{replies-fit}
+use Rattle.record.specs.Lengths.{repliesLength}
 use Rattle.stamps.specs.declared.Judgement.{Judgement}
 use Rattle.stamps.specs.Judging.{JudgesAt}
 use Rattle.call.specs.Play.{Desk, deskOf, runDesk}
-use Rattle.call.specs.Replay.{Ended, stopOf, goesOn}
-use Rattle.call.specs.Run.{endedWith, Runs}
+use Rattle.call.specs.Run.{endedWith, Runs, stopOf, goesOn}
 use Rattle.walk.specs.Reaching.{Reaching, reaching-starts, reaching-ends, reaching-stops, reaching-passes}
 
 pub goes-passes : (v : Verdict) → goesOn v ≡ true → v ≡ verdict.Passes
@@ -43,7 +43,7 @@ module _ (text : List ℕ) (first : ℕ) (b : Board) (x : Images) (replies : Lis
   module _ (short : length text ≤ textLimit) (place : ℕ) (c : Controls) (y : Images) (old : List ℕ) (number count : ℕ) (here : ComesTo place (deskOf c y old number count)) where
     pub runs-out : length text ≤ place → Runs text first b x replies (endedWith Answer.Settled 0 count y old)
     unfolding ComesTo
-    runs-out l = record { runs = λ rs q h z. reaching-ends text b rs x q (few-records q short) place _ (here rs q h z) l }
+    runs-out l = record { runs = λ rs q h z. reaching-ends text b rs x q (replies-fit q short) place _ (here rs q h z) l }
 
     module _ (inside : place < length text) (j : Judgement) (judges : JudgesAt text place b c j) where
       pub runs-stops : goesOn (j .verdict) ≡ false → (a : Answer) → a ≡ stopOf (j .verdict) → Runs text first b x replies (endedWith a (j .stamp) count y old)
@@ -52,12 +52,12 @@ module _ (text : List ℕ) (first : ℕ) (b : Board) (x : Images) (replies : Lis
         runs = λ rs q h z.
             let r = here rs q h z in
             let k = judges .found (r .rest) (r .ok) (r .left) inside in
-            rw s (reaching-stops text b rs x q (few-records q short) place _ r c refl j k g);
+            rw s (reaching-stops text b rs x q (replies-fit q short) place _ r c refl j k g);
       }
 
-      pub comes-next : goesOn (j .verdict) ≡ true → (d : Desk) (n : ℕ) → n ≡ min (j .count) 18 → d ≡ runDesk b (take n (j .records)) (deskOf c y old number count) → ComesTo (j .next) d
+      pub comes-next : goesOn (j .verdict) ≡ true → (d : Desk) (n : ℕ) → n ≡ min (j .count) mostInAll → d ≡ runDesk b (take n (j .records)) (deskOf c y old number count) → ComesTo (j .next) d
       unfolding ComesTo
       comes-next g d n m s rs q h z =
           let r = here rs q h z in
           let k = judges .found (r .rest) (r .ok) (r .left) inside in
-          reaching-passes text b rs x q (few-records q short) place _ r c refl j k g d (s ∙ ap (λ (w : ℕ). runDesk b (take w (j .records)) (deskOf c y old number count)) m)
+          reaching-passes text b rs x q (replies-fit q short) place _ r c refl j k g d (s ∙ ap (λ (w : ℕ). runDesk b (take w (j .records)) (deskOf c y old number count)) m)

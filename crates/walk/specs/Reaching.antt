@@ -1,16 +1,16 @@
 -- The loop over the stamps: what holds when it comes to a stamp, and how it ends. By Walk: each stamp that passes puts its outcome behind what was shown.
 use mathlib.Core.Path.{_≡_, refl, sym, ap, ap₂, subst, _∙_}
-use mathlib.Core.Bool.{Bool, true, false}
-use mathlib.Core.Logic.{_⊎_, inl, inr, ⊎-elim}
+use mathlib.Core.Bool.{true, false}
+use mathlib.Core.Logic.{_⊎_, inl, inr}
 use mathlib.Core.List.{List, [], _∷_, _++_, append-assoc, append-nil}
 use Prim.Native.Nat.{ℕ, _+_, _-_, _*_, _≤_, _<_, min}
 use native.Mathlib.Omega.{arith}
 use lib.ListN.{length, take, drop, replicate, length-append, length-replicate}
 use Rattle.law.specs.Choice.{true-not-false}
-use Rattle.meaning.specs.Lists.{All, all-map, all-append, all-behind, front-in}
-use Rattle.meaning.specs.Meaning.{most, Reason, crowded, differ, lost, Outcome, of, NeverBack, Allowed, Alike, Crowded, after, outcome, before, Means}
+use Rattle.law.specs.Lists.{All, all-map, all-append, all-behind, front-in}
+use Rattle.meaning.specs.Meaning.{most, Reason, crowded, differ, lost, of, NeverBack, Crowded, after, outcome, before, Means}
 use Rattle.meaning.specs.Meaning as meaning
-use Rattle.meaning.specs.Sums.{sum, sum-most, length-apart}
+use Rattle.meaning.specs.Sums.{sum, sum-most, length-apart, mostInAll}
 use Rattle.meaning.specs.Steps.{outcome-append, before-here, means-crowded, means-differ, means-lost}
 use Rattle.meaning.specs.Walk.{Reached, reached-start, reached-stamp, reached-stop, reached-end, run-above, back-behind}
 use Rattle.meaning.specs.Listing.{said, shownAt, laid-said}
@@ -19,28 +19,26 @@ use Rattle.record.specs.declared.Board.{Board}
 use Rattle.record.specs.declared.Record.{Record}
 use Rattle.record.specs.declared.Reply.{Reply}
 use Rattle.record.specs.declared.Answer.{Answer}
-use Rattle.record.specs.declared.Event.{Event}
 use Rattle.record.specs.Answers.{answerNumber}
-use Rattle.board.specs.declared.Controls.{Controls}
-use Rattle.board.specs.Play.{startOf, lostOf}
+use Rattle.controls.specs.declared.Controls.{Controls}
+use Rattle.controls.specs.Play.{startOf, lostOf}
 use Rattle.image.specs.Images.{Images}
 use Rattle.line.specs.Boards.{spelledBoard}
-use Rattle.orders.specs.declared.Held.{Held}
+use Rattle.line.specs.Records.{RecordOk}
 use Rattle.orders.specs.declared.Verdict.{Verdict}
 use Rattle.orders.specs.declared.Verdict.the-variants as verdict
-use Rattle.orders.specs.Verdicts.{Few, TooMany, AllAgree, lastOf, Judged}
-use Rattle.machine.specs.Machine.{Machine, machineAtStart, head, channelOf}
-use Rattle.text.specs.Texts.{spelledAll, AllOk, Readable, textLimit}
+use Rattle.orders.specs.Verdicts.{Few, Judged}
+use Rattle.machine.specs.Machine.{Machine, machineAtStart, onMachine, channelOf}
+use Rattle.text.specs.Texts.{spelledAll, Readable}
 use Rattle.text.proofs.Theorems.{first-place, at-end}
-use Rattle.verdict.specs.Verdict.{Good, good-start, good-after, HoldsMost, Holds, holds-all, few-each, too-many, not-crowded, agree-alike, alike-agree, as-written, lost-as}
-use Rattle.buffers.specs.Buffers.{repliesLength, resultBytes}
+use Rattle.enough.specs.Enough.{Good, good-start, good-after, holds-all, few-each, too-many, not-crowded, agree-alike, alike-agree, as-written, lost-as}
+use Rattle.record.specs.Lengths.{repliesLength}
+use Rattle.buffers.specs.Buffers.{resultBytes}
 use Rattle.stamps.specs.declared.Judgement.{Judgement}
-use Rattle.stamps.specs.Gathering.{Over}
-use Rattle.stamps.specs.Judging.{Found, JudgesAt}
+use Rattle.stamps.specs.Judging.{Found}
 use Rattle.call.specs.Play.{Desk, deskOf, runDesk}
-use Rattle.call.specs.Replay.{Ended, endedAs, replyLines, countTwos, padded, shownAs, shown, reasonAnswer, stopOf, goesOn}
-use Rattle.call.specs.Run.{endedWith, Runs}
-use Rattle.call.proofs.Back.{never-back}
+use Rattle.call.specs.Replay.{Ended, endedAs, replyLines, countTwos, padded, shownAs, shown, reasonAnswer}
+use Rattle.call.specs.Run.{endedWith, stopOf, goesOn}
 use Rattle.call.proofs.Playing.{run-machine, run-append, run-count, run-replies}
 
 -- ---- what is shown of records played as they are written
@@ -51,24 +49,24 @@ module _ (b : Board) (lent : Images) where
   abbrev pub start : Machine
   start = machineAtStart b lent
 
-  lines-long : (o : List Record) (s : Machine) → length (replyLines o (said (head b) o s)) ≡ 4 * length o
+  lines-long : (o : List Record) (s : Machine) → length (replyLines o (said (onMachine b) o s)) ≡ 4 * length o
   unfolding replyLines said
   lines-long [] s = refl
-  lines-long (r ∷ o) s = let ih = lines-long o (head b .play s r) in omega arith
+  lines-long (r ∷ o) s = let ih = lines-long o (onMachine b .play s r) in omega arith
 
-  pub shows : (n t : ℕ) (o : List Record) (d : Desk) → d ≡ runDesk b o started → length o ≤ 10000 →
-      endedAs n (record { images = d .machine .images; replies = d .replies; result = resultBytes n t (d .count) }) ≡ shownAs b n t o (outcome (head b) o start)
+  pub shows : (n t : ℕ) (o : List Record) (d : Desk) → d ≡ runDesk b o started → 4 * length o ≤ repliesLength →
+      endedAs n (record { images = d .machine .images; replies = d .replies; result = resultBytes n t (d .count) }) ≡ shownAs b n t o (outcome (onMachine b) o start)
   unfolding shownAs padded
   shows n t o d p l =
-      let m : d .machine ≡ after (head b) o start = ap (λ (x : Desk). x .machine) p ∙ run-machine b o started in
-      let y : said (head b) o start ≡ shownAt (head b) o (outcome (head b) o start) = sym (laid-said (head b) o start) in
-      let c : d .count ≡ countTwos o (shownAt (head b) o (outcome (head b) o start)) =
+      let m : d .machine ≡ after (onMachine b) o start = ap (λ (x : Desk). x .machine) p ∙ run-machine b o started in
+      let y : said (onMachine b) o start ≡ shownAt (onMachine b) o (outcome (onMachine b) o start) = sym (laid-said (onMachine b) o start) in
+      let c : d .count ≡ countTwos o (shownAt (onMachine b) o (outcome (onMachine b) o start)) =
       ap (λ (x : Desk). x .count) p ∙ run-count b o started ∙ omega arith ∙ ap (countTwos o) y in
       let k : repliesLength ≡ 4 * length o + (repliesLength - 4 * length o) = omega arith in
-      let g : d .replies ≡ replyLines o (said (head b) o start) ++ replicate (repliesLength - 4 * length o) 0 =
+      let g : d .replies ≡ replyLines o (said (onMachine b) o start) ++ replicate (repliesLength - 4 * length o) 0 =
       ap (λ (x : Desk). x .replies) p
       ∙ run-replies b o started [] (repliesLength - 4 * length o) (ap (λ (x : ℕ). replicate x 0) k) refl (length-replicate {A = ℕ} repliesLength 0) (omega arith) in
-      let h = g ∙ ap (λ (x : ℕ). replyLines o (said (head b) o start) ++ replicate (repliesLength - x) 0) (sym (lines-long o start))
+      let h = g ∙ ap (λ (x : ℕ). replyLines o (said (onMachine b) o start) ++ replicate (repliesLength - x) 0) (sym (lines-long o start))
       ∙ ap (λ (ys : List Reply). replyLines o ys ++ replicate (repliesLength - length (replyLines o ys)) 0) y in
       λ i. endedAs n (record { images = m i .images; replies = h i; result = resultBytes n t (c i) })
 
@@ -78,11 +76,11 @@ module _ (text : List ℕ) (b : Board) (rs : List Record) (lent : Images) (reada
     pub done : List Record
     pub rest : List Record
     pub whole : rs ≡ done ++ rest
-    pub ok : AllOk rest
+    pub ok : All RecordOk rest
     pub left : drop place text ≡ spelledAll rest
     pub played : d ≡ runDesk b done (started b lent)
     pub apart : All (λ (r : Record). All (λ (s : Record). r .stamp < s .stamp) rest) done
-    pub reached : Reached (head b) rs (start b lent) rest (outcome (head b) done (start b lent))
+    pub reached : Reached (onMachine b) rs (start b lent) rest (outcome (onMachine b) done (start b lent))
 
   pub reaching-starts : (place : ℕ) → place ≡ length (spelledBoard b) → Reaching place (started b lent)
   unfolding runDesk All
@@ -94,21 +92,21 @@ module _ (text : List ℕ) (b : Board) (rs : List Record) (lent : Images) (reada
     left = subst (λ (k : ℕ). drop k text ≡ spelledAll rs) (sym h) (first-place readable);
     played = refl;
     apart = tt;
-    reached = reached-start (head b) rs (start b lent) refl;
+    reached = reached-start (onMachine b) rs (start b lent) refl;
   }
 
   -- the answer that the demand admits, and what it shows
   abbrev pub Answered : Ended → Type 0
-  Answered x = (z : meaning.Answer Machine Reply) × Means (head b) rs (start b lent) z × (x ≡ shown b rs z)
+  Answered x = (z : meaning.Answer Machine Reply) × Means (onMachine b) rs (start b lent) z × (x ≡ shown b rs z)
 
-  back : NeverBack (head b) rs
-  back = never-back b 0 rs (readable .acceptable .never-back)
+  back : NeverBack (onMachine b) rs
+  back = readable .acceptable .never-back
 
-  module _ (few : length rs ≤ 9360) (place : ℕ) (d : Desk) (r : Reaching place d) where
-    done-few : length (r .done) ≤ 10000
+  module _ (few : 4 * length rs ≤ repliesLength) (place : ℕ) (d : Desk) (r : Reaching place d) where
+    done-few : 4 * length (r .done) ≤ repliesLength
     done-few = omega (arith, ap length (r .whole), length-append (r .done) (r .rest))
 
-    machine-is : d .machine ≡ after (head b) (r .done) (start b lent)
+    machine-is : d .machine ≡ after (onMachine b) (r .done) (start b lent)
     machine-is = ap (λ (x : Desk). x .machine) (r .played) ∙ run-machine b (r .done) (started b lent)
 
     -- the text ends here
@@ -117,9 +115,9 @@ module _ (text : List ℕ) (b : Board) (rs : List Record) (lent : Images) (reada
     reaching-ends h =
         let n : r .rest ≡ [] = at-end text place (r .rest) (r .left) h (r .ok) in
         let w : rs ≡ r .done = r .whole ∙ ap (λ (l : List Record). r .done ++ l) n ∙ append-nil (r .done) in (
-          meaning.settled (outcome (head b) (r .done) (start b lent)),
-          reached-end (head b) rs (start b lent) _ (subst (λ (l : List Record). Reached (head b) rs (start b lent) l (outcome (head b) (r .done) (start b lent))) n (r .reached)),
-          shows b lent 0 0 (r .done) d (r .played) done-few ∙ ap (λ (l : List Record). shownAs b 0 0 l (outcome (head b) (r .done) (start b lent))) (sym w),
+          meaning.settled (outcome (onMachine b) (r .done) (start b lent)),
+          reached-end (onMachine b) rs (start b lent) _ (subst (λ (l : List Record). Reached (onMachine b) rs (start b lent) l (outcome (onMachine b) (r .done) (start b lent))) n (r .reached)),
+          shows b lent 0 0 (r .done) d (r .played) done-few ∙ ap (λ (l : List Record). shownAs b 0 0 l (outcome (onMachine b) (r .done) (start b lent))) (sym w),
         )
 
     module _ (c : Controls) (here : d .machine .controls ≡ c) (j : Judgement) (x : Found text b c (r .rest) j) where
@@ -127,7 +125,7 @@ module _ (text : List ℕ) (b : Board) (rs : List Record) (lent : Images) (reada
       p = x .first ∷ x .others
 
       abbrev m : Machine
-      m = after (head b) (r .done) (start b lent)
+      m = after (onMachine b) (r .done) (start b lent)
 
       controls-are : c ≡ m .controls
       controls-are = sym here ∙ ap (λ (k : Machine). k .controls) machine-is
@@ -138,8 +136,8 @@ module _ (text : List ℕ) (b : Board) (rs : List Record) (lent : Images) (reada
       judged : Judged b (x .held) (m .controls) (j .verdict)
       judged = subst (λ (k : Controls). Judged b (x .held) k (j .verdict)) controls-are (x .judged)
 
-      rest-back : NeverBack (head b) (p ++ x .rest)
-      rest-back = subst (NeverBack (head b)) (x .whole) (back-behind (head b) (r .done) (r .rest) (subst (NeverBack (head b)) (r .whole) back))
+      rest-back : NeverBack (onMachine b) (p ++ x .rest)
+      rest-back = subst (NeverBack (onMachine b)) (x .whole) (back-behind (onMachine b) (r .done) (r .rest) (subst (NeverBack (onMachine b)) (r .whole) back))
 
       -- what follows the stamp is above it
       above-by : (l : List Record) → x .rest ≡ l → (l ≡ []) ⊎ ((s : Record) × (k : List Record) × (l ≡ s ∷ k) × (s .stamp ≡ j .stamp → ⊥)) → All (λ (s : Record). j .stamp < s .stamp) l
@@ -149,7 +147,7 @@ module _ (text : List ℕ) (b : Board) (rs : List Record) (lent : Images) (reada
           let t = x .same .0 in
           subst (All (λ (s : Record). j .stamp < s .stamp)) (sym n)
           (subst (λ (u : ℕ). All (λ (s : Record). u < s .stamp) (s ∷ k)) t
-          (run-above (head b) (x .first) (x .others) s k (subst (λ (l : List Record). NeverBack (head b) (p ++ l)) (q ∙ n) rest-back) (λ e. h (e ∙ t))))
+          (run-above (onMachine b) (x .first) (x .others) s k (subst (λ (l : List Record). NeverBack (onMachine b) (p ++ l)) (q ∙ n) rest-back) (λ e. h (e ∙ t))))
 
       higher : All (λ (s : Record). j .stamp < s .stamp) (x .rest)
       higher = above-by (x .rest) refl (x .over .over)
@@ -160,41 +158,41 @@ module _ (text : List ℕ) (b : Board) (rs : List Record) (lent : Images) (reada
       lower =
           all-map _ _ (λ s k. let z = subst (All (λ (u : Record). s .stamp < u .stamp)) (x .whole) k .0 in let t = x .same .0 in omega (arith, z, t)) (r .done) (r .apart)
 
-      before-is : before (head b) (j .stamp) rs ≡ r .done
+      before-is : before (onMachine b) (j .stamp) rs ≡ r .done
       before-is =
-          ap (before (head b) (j .stamp)) (r .whole ∙ ap (λ (l : List Record). r .done ++ l) (x .whole))
+          ap (before (onMachine b) (j .stamp)) (r .whole ∙ ap (λ (l : List Record). r .done ++ l) (x .whole))
           ∙ front-in _ (r .done) (p ++ x .rest) (all-map _ _ (λ s k. lt-ltb (s .stamp) (j .stamp) k) (r .done) lower)
-          ∙ ap (λ (l : List Record). r .done ++ l) (before-here (head b) p (x .rest) (j .stamp) (x .same) higher)
+          ∙ ap (λ (l : List Record). r .done ++ l) (before-here (onMachine b) p (x .rest) (j .stamp) (x .same) higher)
           ∙ append-nil (r .done)
 
       sure : lostOf (m .controls) ≡ false
       sure = r .reached .sure
 
-      reached-here : Reached (head b) rs (start b lent) (p ++ x .rest) (outcome (head b) (r .done) (start b lent))
-      reached-here = subst (λ (l : List Record). Reached (head b) rs (start b lent) l (outcome (head b) (r .done) (start b lent))) (x .whole) (r .reached)
+      reached-here : Reached (onMachine b) rs (start b lent) (p ++ x .rest) (outcome (onMachine b) (r .done) (start b lent))
+      reached-here = subst (λ (l : List Record). Reached (onMachine b) rs (start b lent) l (outcome (onMachine b) (r .done) (start b lent))) (x .whole) (r .reached)
 
-      stops : (n : Reason) → Means (head b) (p ++ x .rest) m (meaning.stopped n (j .stamp) (outcome (head b) [] m)) →
+      stops : (n : Reason) → Means (onMachine b) (p ++ x .rest) m (meaning.stopped n (j .stamp) (outcome (onMachine b) [] m)) →
           Answered (endedWith (reasonAnswer n) (j .stamp) (d .count) (d .machine .images) (d .replies))
       unfolding shown
       stops n h = (
-        meaning.stopped n (j .stamp) (outcome (head b) (r .done) (start b lent)),
-        reached-stop (head b) rs (start b lent) (p ++ x .rest) _ reached-here n (j .stamp) h,
+        meaning.stopped n (j .stamp) (outcome (onMachine b) (r .done) (start b lent)),
+        reached-stop (onMachine b) rs (start b lent) (p ++ x .rest) _ reached-here n (j .stamp) h,
         shows b lent (answerNumber (reasonAnswer n)) (j .stamp) (r .done) d (r .played) done-few
-            ∙ ap (λ (l : List Record). shownAs b (answerNumber (reasonAnswer n)) (j .stamp) l (outcome (head b) (r .done) (start b lent))) (sym before-is),
+            ∙ ap (λ (l : List Record). shownAs b (answerNumber (reasonAnswer n)) (j .stamp) l (outcome (onMachine b) (r .done) (start b lent))) (sym before-is),
       )
 
       stops-by : (v : Verdict) → Judged b (x .held) (m .controls) v → goesOn v ≡ false → Answered (endedWith (stopOf v) (j .stamp) (d .count) (d .machine .images) (d .replies))
       unfolding Judged
       stops-by verdict.Crowded k g =
-          stops crowded (means-crowded (head b) p (x .rest) (j .stamp) (x .same) higher m sure (too-many b (x .held) p (x .rest) (j .stamp) (x .holds) (x .same) higher k))
+          stops crowded (means-crowded (onMachine b) p (x .rest) (j .stamp) (x .same) higher m sure (too-many b (x .held) p (x .rest) (j .stamp) (x .holds) (x .same) higher k))
       stops-by verdict.Differ k g =
           stops differ
-          (means-differ (head b) p (x .rest) (j .stamp) (x .same) higher m sure (not-crowded b (x .held) p (x .rest) (j .stamp) (x .holds) (x .same) higher (k .0))
+          (means-differ (onMachine b) p (x .rest) (j .stamp) (x .same) higher m sure (not-crowded b (x .held) p (x .rest) (j .stamp) (x .holds) (x .same) higher (k .0))
           (λ a. k .1 (alike-agree b (x .held) p (x .rest) (j .stamp) (x .holds) (x .same) higher m good (k .0) a)))
       stops-by verdict.Lost k g =
           let a = agree-alike b (x .held) p (x .rest) (j .stamp) (x .holds) (x .same) higher m good (k .0) (k .1) in
           stops lost
-          (means-lost (head b) p (x .rest) (j .stamp) (x .same) higher m sure (not-crowded b (x .held) p (x .rest) (j .stamp) (x .holds) (x .same) higher (k .0)) a p
+          (means-lost (onMachine b) p (x .rest) (j .stamp) (x .same) higher m sure (not-crowded b (x .held) p (x .rest) (j .stamp) (x .holds) (x .same) higher (k .0)) a p
           (as-written b (x .held) p (x .rest) (j .stamp) (x .holds) (x .same) higher m good (k .0))
           (sym (lost-as b (x .held) p (x .rest) (j .stamp) (x .holds) (x .same) higher m good (k .0) a) ∙ k .2))
       stops-by verdict.Passes k g = absurd (true-not-false g)
@@ -204,18 +202,18 @@ module _ (text : List ℕ) (b : Board) (rs : List Record) (lent : Images) (reada
       reaching-stops g = stops-by (j .verdict) judged g
 
       -- ---- the stamp passes
-      short : Few (x .held) → length p ≤ 18
+      short : Few (x .held) → length p ≤ mostInAll
       short k =
           let n = length-apart (λ (r : Record). channelOf (r .event)) p in
-          let l : sum (λ c. length (of (head b) c p)) ≤ 18 = sum-most (λ c. length (of (head b) c p)) most (few-each b (x .held) p (x .rest) (j .stamp) (x .holds) (x .same) higher k) in
+          let l : sum (λ c. length (of (onMachine b) c p)) ≤ mostInAll = sum-most (λ c. length (of (onMachine b) c p)) most (few-each b (x .held) p (x .rest) (j .stamp) (x .holds) (x .same) higher k) in
           omega (arith, n, l)
 
-      written-is : Few (x .held) → take (min (j .count) 18) (j .records) ≡ p
+      written-is : Few (x .held) → take (min (j .count) mostInAll) (j .records) ≡ p
       written-is k =
           let l = short k in
           let c = x .written .counts in
-          let n : min (j .count) 18 ≡ j .count = omega (arith, l, c) in
-          ap (λ (i : ℕ). take i (j .records)) n ∙ holds-all 18 (j .count) (j .records) p (x .written) (omega (arith, l, c))
+          let n : min (j .count) mostInAll ≡ j .count = omega (arith, l, c) in
+          ap (λ (i : ℕ). take i (j .records)) n ∙ holds-all mostInAll (j .count) (j .records) p (x .written) (omega (arith, l, c))
 
       apart-next : All (λ (s : Record). All (λ (u : Record). s .stamp < u .stamp) (x .rest)) (r .done ++ p)
       apart-next =
@@ -223,14 +221,14 @@ module _ (text : List ℕ) (b : Board) (rs : List Record) (lent : Images) (reada
           (all-map _ _ (λ s k. all-behind _ p (x .rest) (subst (All (λ (u : Record). s .stamp < u .stamp)) (x .whole) k)) (r .done) (r .apart))
           (all-map _ _ (λ s k. subst (λ (t : ℕ). All (λ (u : Record). t < u .stamp) (x .rest)) (sym k) higher) p (x .same))
 
-      passes-by : (v : Verdict) → Judged b (x .held) (m .controls) v → goesOn v ≡ true → (d′ : Desk) → d′ ≡ runDesk b (take (min (j .count) 18) (j .records)) d → Reaching (j .next) d′
+      passes-by : (v : Verdict) → Judged b (x .held) (m .controls) v → goesOn v ≡ true → (d′ : Desk) → d′ ≡ runDesk b (take (min (j .count) mostInAll) (j .records)) d → Reaching (j .next) d′
       unfolding Judged
       passes-by verdict.Crowded k g d′ q = absurd (true-not-false (sym g))
       passes-by verdict.Differ k g d′ q = absurd (true-not-false (sym g))
       passes-by verdict.Lost k g d′ q = absurd (true-not-false (sym g))
       passes-by verdict.Passes k g d′ q =
           let a = agree-alike b (x .held) p (x .rest) (j .stamp) (x .holds) (x .same) higher m good (k .0) (k .1) in
-          let kept : lostOf (after (head b) p m .controls) ≡ false = sym (lost-as b (x .held) p (x .rest) (j .stamp) (x .holds) (x .same) higher m good (k .0) a) ∙ k .2 in
+          let kept : lostOf (after (onMachine b) p m .controls) ≡ false = sym (lost-as b (x .held) p (x .rest) (j .stamp) (x .holds) (x .same) higher m good (k .0) a) ∙ k .2 in
           record {
             done = r .done ++ p;
             rest = x .rest;
@@ -240,10 +238,10 @@ module _ (text : List ℕ) (b : Board) (rs : List Record) (lent : Images) (reada
             played = q ∙ ap₂ (λ (l : List Record) (y : Desk). runDesk b l y) (written-is (k .0)) (r .played) ∙ sym (run-append b (r .done) p (started b lent));
             apart = apart-next;
             reached =
-                subst (Reached (head b) rs (start b lent) (x .rest)) (sym (outcome-append (head b) (r .done) p (start b lent)))
-                (reached-stamp (head b) rs (start b lent) p (x .rest) (j .stamp) _ reached-here (x .same) higher
+                subst (Reached (onMachine b) rs (start b lent) (x .rest)) (sym (outcome-append (onMachine b) (r .done) p (start b lent)))
+                (reached-stamp (onMachine b) rs (start b lent) p (x .rest) (j .stamp) _ reached-here (x .same) higher
                 (not-crowded b (x .held) p (x .rest) (j .stamp) (x .holds) (x .same) higher (k .0)) a p (as-written b (x .held) p (x .rest) (j .stamp) (x .holds) (x .same) higher m good (k .0)) kept);
           }
 
-      pub reaching-passes : goesOn (j .verdict) ≡ true → (d′ : Desk) → d′ ≡ runDesk b (take (min (j .count) 18) (j .records)) d → Reaching (j .next) d′
+      pub reaching-passes : goesOn (j .verdict) ≡ true → (d′ : Desk) → d′ ≡ runDesk b (take (min (j .count) mostInAll) (j .records)) d → Reaching (j .next) d′
       reaching-passes g d′ q = passes-by (j .verdict) judged g d′ q

@@ -3,7 +3,7 @@ use mathlib.Core.Path.{sym, _∙_}
 use borrow.Author.Tests.{not-true, not-false}
 use Rattle.law.specs.Choice.{via}
 use Rattle.image.specs.Image.{imageOf}
-use Rattle.image.specs.declared.view.Chip.{Chip}
+use Rattle.record.specs.declared.Chip.{Chip}
 use Rattle.image.specs.Images.{keptBytes}
 use Rattle.image.proofs.Fitting.{spans-values, spans-masks}
 use Rattle.buffers.specs.Buffers.{fit}

@@ -1,8 +1,6 @@
 use borrow.Author.Tests.{eq-eqb, ne-eqb}
 use Rattle.desk.proofs.chip_of.Statement.{statement}
 use Rattle.desk.proofs.chip_of.Tie as tie
-use Rattle.desk.proofs.chip_of.Reads as reads
-use Rattle.desk.proofs.chip_of.Lts as lts
 
 returns : tie.Need-returns
 returns c = simp (eq-eqb _ _ (c .if1 .taken))

@@ -5,13 +5,6 @@ use Rattle.walk.specs.Ends.{replays-unfit, replays-long, replays-bad, replays-p
 use borrow.Author.Needs.{needs}
 use Rattle.desk.proofs.hazelcrook_replay.Statement.{statement}
 use Rattle.desk.proofs.hazelcrook_replay.Tie as tie
-use Rattle.desk.proofs.hazelcrook_replay.Reads as reads
-use Rattle.desk.proofs.hazelcrook_replay.Lts as lts
-use Rattle.buffers.proofs.fits_all.Reads as fits-all-reads
-use Rattle.desk.proofs.refuse.Reads as refuse-reads
-use Rattle.desk.proofs.replay.Reads as replay-reads
-use Rattle.text.proofs.check_text.Reads as check-text-reads
-use Rattle.text.proofs.too_long.Reads as too-long-reads
 
 fits-all-requires : tie.Need-fits-all-requires
 fits-all-requires c κs = search needs

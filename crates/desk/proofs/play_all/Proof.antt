@@ -3,14 +3,12 @@ use native.Mathlib.Omega.{arith}
 use Prim.Native.Nat.{_+_, _-_, _≤_}
 use mathlib.Core.Path.{_≡_, refl}
 use lib.ListN.{length, take, drop}
+use Rattle.meaning.specs.Sums.{mostInAll}
 use Rattle.image.specs.Images.{imagesOf}
 use Rattle.call.specs.Play.{deskOf, runDesk}
 use Rattle.call.proofs.Playing.{turn, turned}
 use Rattle.desk.proofs.play_all.Statement.{statement}
 use Rattle.desk.proofs.play_all.Tie as tie
-use Rattle.desk.proofs.play_all.Reads as reads
-use Rattle.desk.proofs.play_all.Lts as lts
-use Rattle.desk.proofs.play_one.Reads as play-one-reads
 
 abbrev Inv-loop : tie.InvT-loop
 Inv-loop board many number count flash₀ flash-mask₀ eeprom₀ eeprom-mask₀ replies₀ records cur₀ c₀ k₀ flash flash-mask eeprom eeprom-mask replies cur c k =
@@ -24,7 +22,7 @@ abbrev μ-loop : tie.MeasureT-loop
 
 -- the array is as long as it is declared
 long : (c : tie.Start Inv-loop μ-loop) → c .args .many ≤ length (c .args .t3)
-long c = let l : length (c .args .t3) ≡ 18 = search needs in omega arith
+long c = let l : length (c .args .t3) ≡ mostInAll = search needs in omega arith
 
 loop-holds : tie.Need-loop-holds Inv-loop μ-loop
 loop-holds c =

@@ -3,12 +3,6 @@ use Rattle.call.proofs.Playing.{two-most, played-one}
 use borrow.Author.Needs.{needs}
 use Rattle.desk.proofs.play_one.Statement.{statement}
 use Rattle.desk.proofs.play_one.Tie as tie
-use Rattle.desk.proofs.play_one.Reads as reads
-use Rattle.desk.proofs.play_one.Lts as lts
-use Rattle.buffers.proofs.put_reply.Reads as put-reply-reads
-use Rattle.desk.proofs.two.Reads as two-reads
-use Rattle.machine.proofs.compare.Reads as compare-reads
-use Rattle.machine.proofs.play.Reads as play-reads
 
 play-requires : tie.Need-play-requires
 play-requires c κs = search needs

@@ -4,10 +4,6 @@ use Rattle.buffers.specs.Buffers.{resultAfter}
 use borrow.Author.Needs.{needs}
 use Rattle.desk.proofs.refuse.Statement.{statement}
 use Rattle.desk.proofs.refuse.Tie as tie
-use Rattle.desk.proofs.refuse.Reads as reads
-use Rattle.desk.proofs.refuse.Lts as lts
-use Rattle.buffers.proofs.put_result.Reads as put-result-reads
-use Rattle.record.proofs.answer_number.Reads as answer-number-reads
 
 answer-number-requires : tie.Need-answer-number-requires
 answer-number-requires c κs = search needs

@@ -5,12 +5,6 @@ use Rattle.walk.specs.Ends.{runs-written}
 use borrow.Author.Needs.{needs}
 use Rattle.desk.proofs.replay.Statement.{statement}
 use Rattle.desk.proofs.replay.Tie as tie
-use Rattle.desk.proofs.replay.Reads as reads
-use Rattle.desk.proofs.replay.Lts as lts
-use Rattle.buffers.proofs.clear_replies.Reads as clear-replies-reads
-use Rattle.buffers.proofs.put_result.Reads as put-result-reads
-use Rattle.desk.proofs.run.Reads as run-reads
-use Rattle.record.proofs.answer_number.Reads as answer-number-reads
 
 clear-replies-requires : tie.Need-clear-replies-requires
 clear-replies-requires c κs = search needs

@@ -1,23 +1,15 @@
 use borrow.Author.Needs.{needs}
 use borrow.Author.Tests.{not-true, not-false}
 use native.Mathlib.Omega.{arith}
-use Prim.Native.Nat.{ℕ, _*_, _-_, _≤_}
-use mathlib.Core.Path.{_≡_, refl, subst}
-use lib.ListN.{length, take}
+use Prim.Native.Nat.{_*_, _-_, _≤_}
+use mathlib.Core.Path.{_≡_, refl}
+use lib.ListN.{length}
 use Rattle.law.specs.Choice.{via}
 use Rattle.image.specs.Images.{imagesOf}
-use Rattle.call.specs.Play.{deskOf, runDesk}
+use Rattle.call.specs.Play.{deskOf}
 use Rattle.walk.specs.Loop.{ComesTo, comes-first, comes-next, runs-stops, runs-out, goes-passes}
 use Rattle.desk.proofs.run.Statement.{statement}
 use Rattle.desk.proofs.run.Tie as tie
-use Rattle.desk.proofs.run.Reads as reads
-use Rattle.desk.proofs.run.Lts as lts
-use Rattle.board.proofs.Controls.start.Reads as start-reads
-use Rattle.desk.proofs.at_most.Reads as at-most-reads
-use Rattle.desk.proofs.passes.Reads as passes-reads
-use Rattle.desk.proofs.play_all.Reads as play-all-reads
-use Rattle.desk.proofs.stop_of.Reads as stop-of-reads
-use Rattle.stamps.proofs.judge_at.Reads as judge-at-reads
 
 abbrev Inv-loop : tie.InvT-loop
 Inv-loop text first board flash₀ flash-mask₀ eeprom₀ eeprom-mask₀ replies₀ cur₀ place₀ number₀ count₀ flash flash-mask eeprom eeprom-mask replies cur place number count =

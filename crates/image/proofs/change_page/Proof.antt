@@ -4,7 +4,7 @@ use native.Mathlib.Omega.{arith}
 use native.Mathlib.Nat.{le-div-iff-mul-le}
 use lib.ListN.{length}
 use Rattle.image.specs.Image.{imageOf, inPage}
-use Rattle.image.specs.Cycles.{changedPlace}
+use Rattle.image.specs.Changing.{changedPlace}
 use Rattle.image.proofs.Fitting.{lengths-fit, lengths-unfit, on-fit, on-unfit, page-there, page-none}
 use borrow.Author.Needs.{needs}
 use Rattle.image.proofs.change_page.Statement.{statement}

@@ -6,7 +6,7 @@ use native.Mathlib.Omega.{arith}
 use lib.ListN.{length, getD, length-set}
 use Rattle.law.specs.Places.{done, next}
 use Rattle.image.specs.Image.{valueBy, maskBy, inPage, eachPlace}
-use Rattle.image.specs.Cycles.{changedPlace}
+use Rattle.image.specs.Changing.{changedPlace}
 use Rattle.image.proofs.Pages.{ofValue, ofMask, begun, turned, ended}
 use Rattle.image.proofs.change_places.Statement.{statement}
 use Rattle.image.proofs.change_places.Tie as tie

@@ -4,7 +4,8 @@ use native.Mathlib.Omega.{arith}
 use lib.ListN.{length}
 use Rattle.image.specs.declared.Change.the-variants.{Store}
 use Rattle.image.specs.Image.{imageOf, onPage}
-use Rattle.image.specs.Cycles.{storePage, changedPlace}
+use Rattle.image.specs.Cycles.{storePage}
+use Rattle.image.specs.Changing.{changedPlace}
 use borrow.Author.Needs.{needs}
 use Rattle.image.proofs.store_page.Statement.{statement}
 use Rattle.image.proofs.store_page.Tie as tie

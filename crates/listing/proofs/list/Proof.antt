@@ -4,14 +4,6 @@ use native.Mathlib.Omega.{arith}
 use borrow.Author.Needs.{needs}
 use Rattle.listing.proofs.list.Statement.{statement}
 use Rattle.listing.proofs.list.Tie as tie
-use Rattle.listing.proofs.list.Reads as reads
-use Rattle.listing.proofs.list.Lts as lts
-use Rattle.listing.proofs.bytes.is_refusal.Reads as is-refusal-reads
-use Rattle.listing.proofs.bytes.number_at.Reads as number-at-reads
-use Rattle.listing.proofs.lines.last_line.Reads as last-line-reads
-use Rattle.listing.proofs.lines.refused_line.Reads as refused-line-reads
-use Rattle.listing.proofs.list_played.Reads as list-played-reads
-use Rattle.listing.proofs.output.copy_line.Reads as copy-line-reads
 
 returns : tie.Need-returns
 returns c = other-replies _ _ _ _ (c .if1 .taken)

@@ -4,11 +4,6 @@ use native.Mathlib.Omega.{arith}
 use borrow.Author.Needs.{needs}
 use Rattle.listing.proofs.list_played.Statement.{statement}
 use Rattle.listing.proofs.list_played.Tie as tie
-use Rattle.listing.proofs.list_played.Reads as reads
-use Rattle.listing.proofs.list_played.Lts as lts
-use Rattle.listing.proofs.lines.heading_line.Reads as heading-line-reads
-use Rattle.listing.proofs.list_records.Reads as list-records-reads
-use Rattle.listing.proofs.output.copy_line.Reads as copy-line-reads
 
 heading-line-requires : tie.Need-heading-line-requires
 heading-line-requires c κs = search needs

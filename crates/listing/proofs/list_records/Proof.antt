@@ -1,114 +1,39 @@
-use Rattle.listing.proofs.Lengths.{record-length, fits}
-use Rattle.listing.proofs.Which.{beyond}
-use Rattle.listing.proofs.Walk.{So, begun, over, unplayed, onward}
-use Rattle.line.proofs.Apart.{tells-record}
+use Rattle.listing.proofs.Walk.{behind-board, no-board}
+use Rattle.line.proofs.Apart.{tells-board}
 use Rattle.field.proofs.Reading.{got-none, got-one}
-use lib.ListN.{length}
-use mathlib.Core.Path.{_≡_, refl}
 use borrow.Author.Needs.{needs}
-use native.Mathlib.Omega.{arith}
-use Prim.Native.Nat.{_≤_, _-_}
 use Rattle.listing.proofs.list_records.Statement.{statement}
 use Rattle.listing.proofs.list_records.Tie as tie
-use Rattle.listing.proofs.list_records.Reads as reads
-use Rattle.listing.proofs.list_records.Lts as lts
-use Rattle.line.proofs.read_record.Reads as read-record-reads
-use Rattle.listing.proofs.bytes.match_at.Reads as match-at-reads
-use Rattle.listing.proofs.bytes.reply_at.Reads as reply-at-reads
-use Rattle.listing.proofs.bytes.was_played.Reads as was-played-reads
-use Rattle.listing.proofs.lines.record_line.Reads as record-line-reads
-use Rattle.listing.proofs.output.copy_line.Reads as copy-line-reads
 
-abbrev Inv-loop : tie.InvT-loop
-Inv-loop text replies out₀ from at₀ c₀ k₀ out at c k = (k ≤ 10000) × (length out ≡ length out₀) × So text replies out₀ at₀ out at (c .at) k
+read-board-requires : tie.Need-read-board-requires
+read-board-requires c κs = search needs
 
-abbrev μ-loop : tie.MeasureT-loop
-μ-loop text replies out₀ from at₀ c₀ k₀ out at c k = 10000 - k
+enum-known-first : tie.Need-enum-known-first
+enum-known-first c = search needs
 
-loop-holds : tie.Need-loop-holds Inv-loop μ-loop
-loop-holds c = (omega arith, refl, begun _ _ _ _)
-
-read-record-requires : tie.Need-read-record-requires Inv-loop μ-loop
-read-record-requires c κs = search needs
-
-enum-known-rec : tie.Need-enum-known-rec Inv-loop μ-loop
-enum-known-rec c = search needs
-
-enum-told : tie.Need-enum-told Inv-loop μ-loop
+enum-told : tie.Need-enum-told
 enum-told c = search needs
 
-same-length : tie.Need-same-length Inv-loop μ-loop
-same-length c = c .before .before .before .before .loop .inv .1
+returns : tie.Need-returns
+returns c = no-board (got-none tells-board (c .before .before .read-board .ensures) (c .enum-told .given .1))
 
-returns : tie.Need-returns Inv-loop μ-loop
-returns c = over (c .before .before .before .before .loop .inv .2) (λ r o s. absurd (got-none tells-record (c .before .before .read-record .ensures) (c .enum-told .given .1) r o s))
+list-from-requires : tie.Need-list-from-requires
+list-from-requires c κs = search needs
 
-reply-at-requires : tie.Need-reply-at-requires Inv-loop μ-loop
-reply-at-requires c κs = omega arith
+same-length : tie.Need-same-length
+same-length c = search needs
 
-was-played-requires : tie.Need-was-played-requires Inv-loop μ-loop
-was-played-requires c κs = search needs
-
-same-length-2 : tie.Need-same-length-2 Inv-loop μ-loop
-same-length-2 c = c .before .before .before .before .before .before .before .before .loop .inv .1
-
-returns-2 : tie.Need-returns-2 Inv-loop μ-loop
-returns-2 c = unplayed (c .before .before .before .before .before .before .before .before .loop .inv .2) (c .before .before .reply-at .ensures) (c .before .was-played .ensures) (c .if1 .taken)
-
-add-number : tie.Need-add-number Inv-loop μ-loop
-add-number c = search needs
-
-cast-number : tie.Need-cast-number Inv-loop μ-loop
-cast-number c = search needs
-
-match-at-requires : tie.Need-match-at-requires Inv-loop μ-loop
-match-at-requires c κs = omega arith
-
-record-line-requires : tie.Need-record-line-requires Inv-loop μ-loop
-record-line-requires c κs = search needs
-
-copy-line-requires : tie.Need-copy-line-requires Inv-loop μ-loop
-copy-line-requires c κs = let g = got-one tells-record (c .before .before .before .before .before .before .before .before .before .read-record .ensures) _ _ (c .before .before .before .before .before .before .before .rec .given .1) in
-    (fits _ (c .before .record-line .ensures) (record-length _ _ (omega arith) (g .ok .0) _ _), omega (arith, c .before .before .before .before .before .before .before .before .before .before .before .loop .inv .2 .space))
-
-add-k : tie.Need-add-k Inv-loop μ-loop
-add-k c = search needs
-
-loop-less : tie.Need-loop-less Inv-loop μ-loop
-loop-less c = omega arith
-
-loop-again : tie.Need-loop-again Inv-loop μ-loop
-loop-again c = (omega arith, omega arith, onward (c .before .before .before .before .before .before .before .before .before .before .before .before .before .before .loop .inv .2) (c .before .before .before .before .before .before .before .before .reply-at .ensures) (c .before .before .before .before .before .before .before .was-played .ensures) (c .before .before .before .before .before .before .if1 .left) (got-one tells-record (c .before .before .before .before .before .before .before .before .before .before .before .before .read-record .ensures) _ _ (c .before .before .before .before .before .before .before .before .before .before .rec .given .1)) (c .before .before .before .before .before .match-at .ensures) (c .before .before .before .before .before .before .before .before .before .before .before .before .before .loop-test .taken) (c .before .before .before .before .record-line .ensures) (c .before .before .copy-line .ensures .0) (c .before .before .copy-line .ensures .1))
-
-same-length-3 : tie.Need-same-length-3 Inv-loop μ-loop
-same-length-3 c = c .before .loop .inv .1
-
-returns-3 : tie.Need-returns-3 Inv-loop μ-loop
-returns-3 c = over (c .before .loop .inv .2) (λ r o s. beyond _ _ (omega arith))
+returns-2 : tie.Need-returns-2
+returns-2 c = behind-board (got-one tells-board (c .before .before .before .before .before .before .before .read-board .ensures) _ _ (c .before .before .before .before .before .first .given .1)) (c .before .before .list-from .ensures)
 
 pub list-records-spec : {M : Type 1} → statement M
 list-records-spec =
     tie.close
     (tie.spec
-    Inv-loop
-    μ-loop
-    loop-holds
-    read-record-requires
-    enum-known-rec
+    read-board-requires
+    enum-known-first
     enum-told
-    same-length
     returns
-    reply-at-requires
-    was-played-requires
-    same-length-2
-    returns-2
-    add-number
-    cast-number
-    match-at-requires
-    record-line-requires
-    copy-line-requires
-    add-k
-    loop-less
-    loop-again
-    same-length-3
-    returns-3)
+    list-from-requires
+    same-length
+    returns-2)

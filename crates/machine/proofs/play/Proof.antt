@@ -2,14 +2,6 @@ use Rattle.machine.proofs.Playing.{played, said}
 use borrow.Author.Needs.{needs}
 use Rattle.machine.proofs.play.Statement.{statement}
 use Rattle.machine.proofs.play.Tie as tie
-use Rattle.machine.proofs.play.Reads as reads
-use Rattle.machine.proofs.play.Lts as lts
-use Rattle.board.proofs.Controls.play.Reads as play-reads
-use Rattle.machine.proofs.change_eeprom.Reads as change-eeprom-reads
-use Rattle.machine.proofs.change_flash.Reads as change-flash-reads
-use Rattle.machine.proofs.deliver_for.Reads as deliver-for-reads
-use Rattle.machine.proofs.eeprom_stroke.Reads as eeprom-stroke-reads
-use Rattle.machine.proofs.flash_stroke.Reads as flash-stroke-reads
 
 play-requires : tie.Need-play-requires
 play-requires c κs = search needs
@@ -17,14 +9,14 @@ play-requires c κs = search needs
 deliver-for-requires : tie.Need-deliver-for-requires
 deliver-for-requires c κs = search needs
 
-flash-stroke-requires : tie.Need-flash-stroke-requires
-flash-stroke-requires c κs = search needs
+stroke-for-requires : tie.Need-stroke-for-requires
+stroke-for-requires c κs = search needs
 
 change-flash-requires : tie.Need-change-flash-requires
 change-flash-requires c κs = search needs
 
-eeprom-stroke-requires : tie.Need-eeprom-stroke-requires
-eeprom-stroke-requires c κs = search needs
+stroke-for-requires-2 : tie.Need-stroke-for-requires-2
+stroke-for-requires-2 c κs = search needs
 
 change-eeprom-requires : tie.Need-change-eeprom-requires
 change-eeprom-requires c κs = search needs
@@ -43,7 +35,7 @@ same-length-4 c = search needs
 
 returns : tie.Need-returns
 returns c = (
-  played _ _ _ _ _ (c .before .before .before .before .before .before .before .before .before .before .before .before .before .before .before .before .before .before .before .before .before .before .before .before .before .play .ensures) _ _ _ (c .before .before .before .before .before .before .before .before .before .before .before .before .before .before .before .before .flash-stroke .ensures) (c .before .before .before .before .before .before .before .before .before .before .before .before .before .change-flash .ensures) (c .before .before .before .before .before .before .before .eeprom-stroke .ensures) (c .before .before .before .before .change-eeprom .ensures),
+  played _ _ _ _ _ (c .before .before .before .before .before .before .before .before .before .before .before .before .before .before .before .before .before .before .before .before .before .before .before .before .before .play .ensures) _ _ _ (c .before .before .before .before .before .before .before .before .before .before .before .before .before .before .before .before .stroke-for .ensures) (c .before .before .before .before .before .before .before .before .before .before .before .before .before .change-flash .ensures) (c .before .before .before .before .before .before .before .stroke-for2 .ensures) (c .before .before .before .before .change-eeprom .ensures),
   said _ _ _ _ _ (c .before .before .before .before .before .before .before .before .before .before .before .before .before .before .before .before .before .before .before .before .before .before .before .before .before .play .ensures) _ (c .before .before .before .before .before .before .before .before .before .before .before .before .before .before .before .before .before .before .deliver-for .ensures),
 )
 
@@ -53,9 +45,9 @@ play-spec =
     (tie.spec
     play-requires
     deliver-for-requires
-    flash-stroke-requires
+    stroke-for-requires
     change-flash-requires
-    eeprom-stroke-requires
+    stroke-for-requires-2
     change-eeprom-requires
     same-length
     same-length-2

@@ -1,15 +1,16 @@
 use mathlib.Core.Path.{_≡_, ap}
 use lib.ListN.{length}
 use mathlib.Core.Bool.{Bool}
+use Rattle.meaning.specs.Meaning.{F, L, most}
 use Rattle.law.specs.Deciding.{Decides, decides-true, refuses, passed}
 use Rattle.orders.specs.Stamp.{AgreeFrom, BusAgrees, LineAgrees}
 use Rattle.law.specs.Rest.{unmapped}
 use Rattle.orders.proofs.Stamp.{Whole, none-left, bus-fails, buses-left, both-left, lines-left, reply-first, after-bus, after-line}
-use Prim.Native.Nat.{ℕ, _+_, _-_, _<_, _≤_}
+use Prim.Native.Nat.{ℕ, _+_, _-_, _<_}
 use native.Mathlib.Omega.{arith}
 use borrow.Author.Needs.{needs}
 use Rattle.orders.specs.declared.Tied.{Tied}
-use Rattle.board.specs.declared.Moved.{Moved}
+use Rattle.controls.specs.declared.Moved.{Moved}
 use borrow.Fn.Kinds.{In}
 use borrow.Fn.PlainCycle.{Measures, is, falls, and}
 use Rattle.orders.proofs.bus_next.Reads as bus-next
@@ -18,8 +19,8 @@ use Rattle.orders.proofs.+bus_next+line_next.Lts-bus_next as bus-next-l
 use Rattle.orders.proofs.line_next.Reads as line-next
 use Rattle.orders.proofs.line_next.Kinds as line-next-kinds
 use Rattle.orders.proofs.+bus_next+line_next.Lts-line_next as line-next-lts
-use Rattle.board.proofs.Controls.play.Reads as play-reads
-use Rattle.board.proofs.same.Reads as same-reads
+use Rattle.controls.proofs.Controls.play.Reads as play-reads
+use Rattle.controls.proofs.same.Reads as same-reads
 use Rattle.record.proofs.same_skeleton.Reads as same-skeleton-reads
 use Rattle.orders.proofs.+bus_next+line_next.{statement}
 use Rattle.orders.proofs.+bus_next+line_next.Tie.{close}
@@ -57,16 +58,16 @@ line-callees t = (play-reads.Asked, play-reads.Learnt, bus-next-below t, bus-nex
 -- the arrays are as long as declared: what owning the parameters tells
 bus-next-whole : (t : ℕ) (c : bus-next-lts.Start (bus-callees t) (bus-next-at t) bus-next.Post) → Whole (c .args .t2) (c .args .t6)
 bus-next-whole t c =
-    let lb : length (c .args .t2 .buses) ≡ 8 = unmapped _ (c .args .t2 .buses) 8 (c .good .1 .0 .1 .1 .0 .1 .0 .1) in
-    let ll : length (c .args .t2 .lines) ≡ 2 = unmapped _ (c .args .t2 .lines) 2 (c .good .1 .0 .1 .1 .1 .1 .0 .1 .0 .1) in
-    let lr : length (c .args .t6 .replies) ≡ 8 = unmapped _ (c .args .t6 .replies) 8 (c .good .1 .1 .1 .1 .1 .0 .1 .1 .1 .0 .1 .0 .1) in
+    let lb : length (c .args .t2 .buses) ≡ most F = unmapped _ (c .args .t2 .buses) (most F) (c .good .1 .0 .1 .1 .0 .1 .0 .1) in
+    let ll : length (c .args .t2 .lines) ≡ most L = unmapped _ (c .args .t2 .lines) (most L) (c .good .1 .0 .1 .1 .1 .1 .0 .1 .0 .1) in
+    let lr : length (c .args .t6 .replies) ≡ most F = unmapped _ (c .args .t6 .replies) (most F) (c .good .1 .1 .1 .1 .1 .0 .1 .1 .1 .0 .1 .0 .1) in
     omega arith
 
 line-next-whole : (t : ℕ) (c : line-next-lts.Start (line-callees t) (line-next-at t) line-next.Post) → Whole (c .args .t2) (c .args .want)
 line-next-whole t c =
-    let lb : length (c .args .t2 .buses) ≡ 8 = unmapped _ (c .args .t2 .buses) 8 (c .good .1 .0 .1 .1 .0 .1 .0 .1) in
-    let ll : length (c .args .t2 .lines) ≡ 2 = unmapped _ (c .args .t2 .lines) 2 (c .good .1 .0 .1 .1 .1 .1 .0 .1 .0 .1) in
-    let lr : length (c .args .want .replies) ≡ 8 = unmapped _ (c .args .want .replies) 8 (c .good .1 .1 .1 .1 .1 .0 .1 .1 .1 .0 .1 .0 .1) in
+    let lb : length (c .args .t2 .buses) ≡ most F = unmapped _ (c .args .t2 .buses) (most F) (c .good .1 .0 .1 .1 .0 .1 .0 .1) in
+    let ll : length (c .args .t2 .lines) ≡ most L = unmapped _ (c .args .t2 .lines) (most L) (c .good .1 .0 .1 .1 .1 .1 .0 .1 .0 .1) in
+    let lr : length (c .args .want .replies) ≡ most F = unmapped _ (c .args .want .replies) (most F) (c .good .1 .1 .1 .1 .1 .0 .1 .1 .1 .0 .1 .0 .1) in
     omega arith
 
 -- after the reply has passed, what is left is every order of the rest

@@ -1,33 +1,28 @@
 use borrow.Author.Needs.{needs}
 use native.Mathlib.Omega.{arith}
-use Prim.Native.Nat.{_≤_, _<_}
 use mathlib.Core.Path.{_≡_}
 use mathlib.Core.Bool.{Bool}
 use lib.ListN.{length}
+use Rattle.meaning.specs.Meaning.{F, L, most}
 use Rattle.law.specs.Deciding.{Decides, decides-true, refuses, passed}
 use Rattle.law.specs.Rest.{unmapped}
 use Rattle.orders.specs.Stamp.{AgreeFrom, Settled}
 use Rattle.orders.proofs.Stamp.{Whole, bus-fails, both-left, settles, lineless, busless}
 use Rattle.orders.proofs.agree.Statement.{statement}
 use Rattle.orders.proofs.agree.Tie as tie
-use Rattle.orders.proofs.agree.Reads as reads
-use Rattle.orders.proofs.agree.Lts as lts
-use Rattle.orders.proofs.bus_next.Reads as bus-next-reads
-use Rattle.orders.proofs.line_next.Reads as line-next-reads
-use Rattle.orders.proofs.reference.Reads as reference-reads
 
 -- the arrays are as long as declared
-buses-long : (c : tie.Start) → length (c .args .t1 .buses) ≡ 8
-buses-long c = unmapped _ (c .args .t1 .buses) 8 (c .good .0 .1 .1 .0 .1 .0 .1)
+buses-long : (c : tie.Start) → length (c .args .t1 .buses) ≡ most F
+buses-long c = unmapped _ (c .args .t1 .buses) (most F) (c .good .0 .1 .1 .0 .1 .0 .1)
 
-lines-long : (c : tie.Start) → length (c .args .t1 .lines) ≡ 2
-lines-long c = unmapped _ (c .args .t1 .lines) 2 (c .good .0 .1 .1 .1 .1 .0 .1 .0 .1)
+lines-long : (c : tie.Start) → length (c .args .t1 .lines) ≡ most L
+lines-long c = unmapped _ (c .args .t1 .lines) (most L) (c .good .0 .1 .1 .1 .1 .0 .1 .0 .1)
 
 whole : (c : tie.After-reference) → Whole (c .before .before .before .args .t1) (c .reference .result)
 whole c =
     let lb = buses-long (c .before .before .before) in
     let ll = lines-long (c .before .before .before) in
-    let lr : length (c .reference .result .replies) ≡ 8 = unmapped _ (c .reference .result .replies) 8 (c .reference .ok .1 .1 .1 .0 .1 .0 .1) in
+    let lr : length (c .reference .result .replies) ≡ most F = unmapped _ (c .reference .result .replies) (most F) (c .reference .ok .1 .1 .1 .0 .1 .0 .1) in
     omega arith
 
 -- to agree with the reference is to be settled

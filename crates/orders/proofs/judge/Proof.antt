@@ -1,51 +1,47 @@
 use borrow.Author.Needs.{needs}
 use native.Mathlib.Omega.{arith}
-use mathlib.Core.Logic.{inl, inr}
+use mathlib.Core.Path.{refl}
+use Rattle.meaning.specs.Meaning.{F, E, L}
 use Rattle.orders.specs.Verdicts.{Few, Judged}
-use Rattle.orders.proofs.Verdicts.{flash-within, eeprom-within, flash-settled, eeprom-settled, flash-differs, eeprom-differs, is-lost, is-kept}
+use Rattle.orders.proofs.Verdicts.{within, settled, differs, is-lost, is-kept}
 use Rattle.orders.proofs.judge.Statement.{statement}
 use Rattle.orders.proofs.judge.Tie as tie
-use Rattle.orders.proofs.judge.Reads as reads
-use Rattle.orders.proofs.judge.Lts as lts
-use Rattle.board.proofs.Controls.lost.Reads as lost-reads
-use Rattle.orders.proofs.agree.Reads as agree-reads
-use Rattle.orders.proofs.last.Reads as last-reads
-use Rattle.orders.proofs.tied_eeprom.Reads as tied-eeprom-reads
-use Rattle.orders.proofs.tied_flash.Reads as tied-flash-reads
 
 -- past the three tests
 few : (c : tie.Else3) → Few (c .before .before .before .before .before .before .args .held)
-few c = omega arith
+few c F = omega arith
+few c E = omega arith
+few c L = omega arith
 
 returns : tie.Need-returns
 unfolding Judged
-returns c = inl (c .if1 .taken)
+returns c = (F, c .if1 .taken)
 
 returns-2 : tie.Need-returns-2
 unfolding Judged
-returns-2 c = inr (inl (c .if2 .taken))
+returns-2 c = (E, c .if2 .taken)
 
 returns-3 : tie.Need-returns-3
 unfolding Judged
-returns-3 c = inr (inr (c .if3 .taken))
+returns-3 c = (L, c .if3 .taken)
 
 tied-flash-requires : tie.Need-tied-flash-requires
 tied-flash-requires c κs = search needs
 
 agree-requires : tie.Need-agree-requires
-agree-requires c κs = flash-within (c .before .before .before .before .before .before .before .args .held) _ _ (few (c .before)) (c .tied-flash .ensures)
+agree-requires c κs = within (c .before .before .before .before .before .before .before .args .held) F _ _ (c .tied-flash .ensures) (few (c .before))
 
 returns-4 : tie.Need-returns-4
-returns-4 c = flash-differs _ _ _ (few (c .before .before .before)) (flash-settled (c .before .before .before .before .before .before .before .before .before .args .held) _ _ _ (c .before .before .tied-flash .ensures) (c .before .agree .ensures)) (c .if4 .taken)
+returns-4 c = differs _ _ _ (few (c .before .before .before)) F refl (settled (c .before .before .before .before .before .before .before .before .before .args .held) F _ _ (c .before .before .tied-flash .ensures) _ (c .before .agree .ensures)) (c .if4 .taken)
 
 tied-eeprom-requires : tie.Need-tied-eeprom-requires
 tied-eeprom-requires c κs = search needs
 
 agree-requires-2 : tie.Need-agree-requires-2
-agree-requires-2 c κs = eeprom-within (c .before .before .before .before .before .before .before .before .before .before .args .held) _ _ (few (c .before .before .before .before)) (c .tied-eeprom .ensures)
+agree-requires-2 c κs = within (c .before .before .before .before .before .before .before .before .before .before .args .held) E _ _ (c .tied-eeprom .ensures) (few (c .before .before .before .before))
 
 returns-5 : tie.Need-returns-5
-returns-5 c = eeprom-differs _ _ _ (few (c .before .before .before .before .before .before)) (eeprom-settled (c .before .before .before .before .before .before .before .before .before .before .before .before .args .held) _ _ _ (c .before .before .tied-eeprom .ensures) (c .before .agree2 .ensures)) (c .if5 .taken)
+returns-5 c = differs _ _ _ (few (c .before .before .before .before .before .before)) E refl (settled (c .before .before .before .before .before .before .before .before .before .before .before .before .args .held) E _ _ (c .before .before .tied-eeprom .ensures) _ (c .before .agree2 .ensures)) (c .if5 .taken)
 
 last-requires : tie.Need-last-requires
 last-requires c κs = few (c .before .before .before .before .before .before)
@@ -55,14 +51,14 @@ lost-requires c κs = search needs
 
 returns-6 : tie.Need-returns-6
 returns-6 c =
-    is-lost _ _ _ (few (c .before .before .before .before .before .before .before .before .before)) (flash-settled (c .before .before .before .before .before .before .before .before .before .before .before .before .before .before .before .args .held) _ _ _ (c .before .before .before .before .before .before .before .before .tied-flash .ensures) (c .before .before .before .before .before .before .before .agree .ensures)) (c .before .before .before .before .before .before .if4 .left)
-    (eeprom-settled (c .before .before .before .before .before .before .before .before .before .before .before .before .before .before .before .args .held) _ _ _ (c .before .before .before .before .before .tied-eeprom .ensures) (c .before .before .before .before .agree2 .ensures)) (c .before .before .before .if5 .left)
+    is-lost _ _ _ (few (c .before .before .before .before .before .before .before .before .before)) (settled (c .before .before .before .before .before .before .before .before .before .before .before .before .before .before .before .args .held) F _ _ (c .before .before .before .before .before .before .before .before .tied-flash .ensures) _ (c .before .before .before .before .before .before .before .agree .ensures)) (c .before .before .before .before .before .before .if4 .left)
+    (settled (c .before .before .before .before .before .before .before .before .before .before .before .before .before .before .before .args .held) E _ _ (c .before .before .before .before .before .tied-eeprom .ensures) _ (c .before .before .before .before .agree2 .ensures)) (c .before .before .before .if5 .left)
     _ _ (c .before .before .last .ensures) (c .before .lost .ensures) (c .if6 .taken)
 
 returns-7 : tie.Need-returns-7
 returns-7 c =
-    is-kept _ _ _ (few (c .before .before .before .before .before .before .before .before .before)) (flash-settled (c .before .before .before .before .before .before .before .before .before .before .before .before .before .before .before .args .held) _ _ _ (c .before .before .before .before .before .before .before .before .tied-flash .ensures) (c .before .before .before .before .before .before .before .agree .ensures)) (c .before .before .before .before .before .before .if4 .left)
-    (eeprom-settled (c .before .before .before .before .before .before .before .before .before .before .before .before .before .before .before .args .held) _ _ _ (c .before .before .before .before .before .tied-eeprom .ensures) (c .before .before .before .before .agree2 .ensures)) (c .before .before .before .if5 .left)
+    is-kept _ _ _ (few (c .before .before .before .before .before .before .before .before .before)) (settled (c .before .before .before .before .before .before .before .before .before .before .before .before .before .before .before .args .held) F _ _ (c .before .before .before .before .before .before .before .before .tied-flash .ensures) _ (c .before .before .before .before .before .before .before .agree .ensures)) (c .before .before .before .before .before .before .if4 .left)
+    (settled (c .before .before .before .before .before .before .before .before .before .before .before .before .before .before .before .args .held) E _ _ (c .before .before .before .before .before .tied-eeprom .ensures) _ (c .before .before .before .before .agree2 .ensures)) (c .before .before .before .if5 .left)
     _ _ (c .before .before .last .ensures) (c .before .lost .ensures) (c .if6 .left)
 
 pub judge-spec : {M : Type 1} → statement M

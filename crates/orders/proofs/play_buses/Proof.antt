@@ -3,13 +3,11 @@ use native.Mathlib.Omega.{arith}
 use Prim.Native.Nat.{_-_, _≤_}
 use mathlib.Core.Path.{_≡_, refl}
 use lib.ListN.{length}
+use Rattle.meaning.specs.Meaning.{F, most}
 use Rattle.law.specs.Rest.{unmapped}
 use Rattle.orders.proofs.Stamp.{Playing, playing-starts, playing-goes, playing-ends}
 use Rattle.orders.proofs.play_buses.Statement.{statement}
 use Rattle.orders.proofs.play_buses.Tie as tie
-use Rattle.orders.proofs.play_buses.Reads as reads
-use Rattle.orders.proofs.play_buses.Lts as lts
-use Rattle.board.proofs.Controls.play.Reads as play-reads
 
 abbrev Inv-loop : tie.InvT-loop
 Inv-loop tied replies₀ cur₀ i₀ replies cur i = Playing tied cur₀ replies cur i
@@ -19,7 +17,7 @@ abbrev μ-loop : tie.MeasureT-loop
 
 all : (c : tie.Start Inv-loop μ-loop) → c .args .t1 .«bus_count» ≤ length (c .args .t1 .buses)
 all c =
-    let lb : length (c .args .t1 .buses) ≡ 8 = unmapped _ (c .args .t1 .buses) 8 (c .good .0 .1 .1 .0 .1 .0 .1) in
+    let lb : length (c .args .t1 .buses) ≡ most F = unmapped _ (c .args .t1 .buses) (most F) (c .good .0 .1 .1 .0 .1 .0 .1) in
     omega arith
 
 loop-holds : tie.Need-loop-holds Inv-loop μ-loop

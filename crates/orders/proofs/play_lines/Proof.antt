@@ -3,14 +3,12 @@ use native.Mathlib.Omega.{arith}
 use Prim.Native.Nat.{_-_, _≤_}
 use mathlib.Core.Path.{_≡_, refl, ap}
 use lib.ListN.{length}
+use Rattle.meaning.specs.Meaning.{L, most}
 use Rattle.law.specs.Rest.{unmapped}
-use Rattle.board.specs.declared.Moved.{Moved}
+use Rattle.controls.specs.declared.Moved.{Moved}
 use Rattle.orders.proofs.Stamp.{Lining, lining-goes, lining-ends}
 use Rattle.orders.proofs.play_lines.Statement.{statement}
 use Rattle.orders.proofs.play_lines.Tie as tie
-use Rattle.orders.proofs.play_lines.Reads as reads
-use Rattle.orders.proofs.play_lines.Lts as lts
-use Rattle.board.proofs.Controls.play.Reads as play-reads
 
 abbrev Inv-loop : tie.InvT-loop
 Inv-loop tied cur₀ i₀ cur i = Lining tied cur₀ cur i
@@ -20,7 +18,7 @@ abbrev μ-loop : tie.MeasureT-loop
 
 all : (c : tie.Start Inv-loop μ-loop) → c .args .t1 .«line_count» ≤ length (c .args .t1 .lines)
 all c =
-    let ll : length (c .args .t1 .lines) ≡ 2 = unmapped _ (c .args .t1 .lines) 2 (c .good .0 .1 .1 .1 .1 .0 .1 .0 .1) in
+    let ll : length (c .args .t1 .lines) ≡ most L = unmapped _ (c .args .t1 .lines) (most L) (c .good .0 .1 .1 .1 .1 .0 .1 .0 .1) in
     omega arith
 
 loop-holds : tie.Need-loop-holds Inv-loop μ-loop

@@ -2,10 +2,6 @@ use borrow.Author.Needs.{needs}
 use Rattle.orders.proofs.Stamp.{referred}
 use Rattle.orders.proofs.reference.Statement.{statement}
 use Rattle.orders.proofs.reference.Tie as tie
-use Rattle.orders.proofs.reference.Reads as reads
-use Rattle.orders.proofs.reference.Lts as lts
-use Rattle.orders.proofs.play_buses.Reads as play-buses-reads
-use Rattle.orders.proofs.play_lines.Reads as play-lines-reads
 
 play-buses-requires : tie.Need-play-buses-requires
 play-buses-requires c κs = search needs

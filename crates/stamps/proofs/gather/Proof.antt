@@ -7,10 +7,6 @@ use Rattle.stamps.specs.declared.Gathered.{Gathered}
 use Rattle.stamps.proofs.Turns.{Gathering, gathering-starts, gathering-goes, gathered-other, gathered-bad, gathered-end, read-place}
 use Rattle.stamps.proofs.gather.Statement.{statement}
 use Rattle.stamps.proofs.gather.Tie as tie
-use Rattle.stamps.proofs.gather.Reads as reads
-use Rattle.stamps.proofs.gather.Lts as lts
-use Rattle.stamps.proofs.gather_one.Reads as gather-one-reads
-use Rattle.text.proofs.record_at.Reads as record-at-reads
 
 abbrev Inv-loop : tie.InvT-loop
 Inv-loop text stamp g₀ g = Gathering text stamp g₀ g

@@ -1,12 +1,6 @@
-use borrow.Author.Tests.{lt-ltb, le-ltb, le-leb, lt-leb, eq-eqb, ne-eqb}
 use borrow.Author.Needs.{needs}
 use Rattle.stamps.proofs.hold.Statement.{statement}
 use Rattle.stamps.proofs.hold.Tie as tie
-use Rattle.stamps.proofs.hold.Reads as reads
-use Rattle.stamps.proofs.hold.Lts as lts
-use Rattle.stamps.proofs.hold_eeprom.Reads as hold-eeprom-reads
-use Rattle.stamps.proofs.hold_flash.Reads as hold-flash-reads
-use Rattle.stamps.proofs.hold_line.Reads as hold-line-reads
 
 enum-told : tie.Need-enum-told
 enum-told c = search needs

@@ -1,16 +1,12 @@
-use borrow.Author.Tests.{lt-ltb, le-ltb, le-leb, lt-leb, eq-eqb, ne-eqb}
 use borrow.Author.Needs.{needs}
 use Rattle.stamps.proofs.hold_eeprom.Statement.{statement}
 use Rattle.stamps.proofs.hold_eeprom.Tie as tie
-use Rattle.stamps.proofs.hold_eeprom.Reads as reads
-use Rattle.stamps.proofs.hold_eeprom.Lts as lts
-use Rattle.stamps.proofs.keep_eight.Reads as keep-eight-reads
 
-keep-eight-requires : tie.Need-keep-eight-requires
-keep-eight-requires c κs = search needs
+keep-bus-requires : tie.Need-keep-bus-requires
+keep-bus-requires c κs = search needs
 
 returns : tie.Need-returns
-returns c = simp (c .before .keep-eight .ensures)
+returns c = simp (c .before .keep-bus .ensures)
 
 pub hold-eeprom-spec : {M : Type 1} → statement M
-hold-eeprom-spec = tie.close (tie.spec keep-eight-requires returns)
+hold-eeprom-spec = tie.close (tie.spec keep-bus-requires returns)

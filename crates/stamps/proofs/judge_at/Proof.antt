@@ -2,13 +2,6 @@ use Rattle.stamps.proofs.Judges.{judges-none, judges-some}
 use borrow.Author.Needs.{needs}
 use Rattle.stamps.proofs.judge_at.Statement.{statement}
 use Rattle.stamps.proofs.judge_at.Tie as tie
-use Rattle.stamps.proofs.judge_at.Reads as reads
-use Rattle.stamps.proofs.judge_at.Lts as lts
-use Rattle.orders.proofs.judge.Reads as judge-reads
-use Rattle.stamps.proofs.gather.Reads as gather-reads
-use Rattle.stamps.proofs.gather_one.Reads as gather-one-reads
-use Rattle.stamps.proofs.none_gathered.Reads as none-gathered-reads
-use Rattle.text.proofs.record_at.Reads as record-at-reads
 
 none-gathered-requires : tie.Need-none-gathered-requires
 none-gathered-requires c κs = search needs

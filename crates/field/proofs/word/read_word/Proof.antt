@@ -1,7 +1,7 @@
 use Prim.Native.Nat.{ℕ, _+_, _≤_, _<_, _-_}
 use native.Mathlib.Omega.{arith}
 use mathlib.Core.Path.{_≡_}
-use borrow.Author.Count.{below-none, below-more}
+use borrow.Author.Count.{below-more}
 use lib.ListN.{length, getD}
 use Rattle.field.proofs.WordLaws.{word-short, word-miss, word-here, word-empty}
 use Rattle.field.proofs.word.read_word.Statement.{statement}

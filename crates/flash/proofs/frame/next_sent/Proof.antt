@@ -9,11 +9,14 @@ use Rattle.flash.proofs.frame.moved_on.Reads as moved-on-reads
 add-t8 : tie.Need-add-t8
 add-t8 c = search needs
 
-mul-t10 : tie.Need-mul-t10
-mul-t10 c = search needs
+rem-t10 : tie.Need-rem-t10
+rem-t10 c = search needs
 
-add-t12 : tie.Need-add-t12
-add-t12 c = search needs
+mul-t11 : tie.Need-mul-t11
+mul-t11 c = search needs
+
+add-t13 : tie.Need-add-t13
+add-t13 c = search needs
 
 moved-on-requires : tie.Need-moved-on-requires
 moved-on-requires c κs = search needs
@@ -25,4 +28,5 @@ returns-2 : tie.Need-returns-2
 returns-2 c = simp (le-ltb _ _ (c .before .if1 .left), c .moved-on .ensures)
 
 pub next-sent-spec : {M : Type 1} → statement M
-next-sent-spec = tie.close (tie.spec add-t8 mul-t10 add-t12 moved-on-requires returns returns-2)
+next-sent-spec =
+    tie.close (tie.spec add-t8 rem-t10 mul-t11 add-t13 moved-on-requires returns returns-2)

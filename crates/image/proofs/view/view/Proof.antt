@@ -3,8 +3,8 @@ use mathlib.Core.List.{List}
 use Prim.Native.Nat.{ℕ, _+_, _-_, _≤_}
 use native.Mathlib.Omega.{arith}
 use lib.ListN.{length, take, drop}
-use Rattle.image.specs.declared.view.Chip.{Chip}
-use Rattle.image.specs.declared.view.Chip.the-variants.{Flash, Eeprom}
+use Rattle.record.specs.declared.Chip.{Chip}
+use Rattle.record.specs.declared.Chip.the-variants.{Flash, Eeprom}
 use Rattle.image.specs.Images.{perChip, keptBytes}
 use Rattle.image.specs.View.{viewPlace, viewLength, pageShown}
 use Rattle.image.proofs.Shown.{kept-most, view-within, asked-within, view-is}

@@ -1,8 +1,6 @@
 use native.Mathlib.Omega.{arith}
-use lib.ListN.{length}
 use borrow.Author.Tests.{not-true}
 use Rattle.law.specs.Deciding.{passed}
-use Rattle.field.proofs.SpellingLaws.{Holds}
 use Rattle.line.proofs.OutputLaws.{board-length, fits-board, wrote-as, wrote-board, wrote-board-not}
 use borrow.Author.Needs.{needs}
 use Rattle.line.proofs.boards.write_board.Statement.{statement}

@@ -2,7 +2,7 @@ use Rattle.field.proofs.Answers.{tells-word}
 use Rattle.line.proofs.Apart.{tells-data}
 use Rattle.line.proofs.EepromLaws.{eeprom-value, eeprom-data, eeprom-bad, eeprom-bad-data}
 use Rattle.line.specs.ChannelE.{spelledEeprom}
-use Rattle.record.specs.declared.EepromEvent.the-variants.{Start, Byte, Cut, Stop, End}
+use Rattle.record.specs.declared.EepromEvent.the-variants.{Start, Cut, Stop, End}
 use Rattle.field.proofs.Reading.{got-none, got-one}
 use borrow.Author.Needs.{needs}
 use Rattle.line.proofs.channel_e.read_eeprom.Statement.{statement}

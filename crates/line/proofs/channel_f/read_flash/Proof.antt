@@ -2,7 +2,7 @@ use Rattle.field.proofs.Answers.{tells-word}
 use Rattle.line.proofs.Apart.{tells-pair}
 use Rattle.line.proofs.FlashLaws.{flash-value, flash-pair, flash-bad, flash-bad-pair}
 use Rattle.line.specs.ChannelF.{spelledFlash}
-use Rattle.record.specs.declared.FlashEvent.the-variants.{Select, Byte, Cut, Deselect, End}
+use Rattle.record.specs.declared.FlashEvent.the-variants.{Select, Cut, Deselect, End}
 use Rattle.field.proofs.Reading.{got-none, got-one}
 use borrow.Author.Needs.{needs}
 use Rattle.line.proofs.channel_f.read_flash.Statement.{statement}

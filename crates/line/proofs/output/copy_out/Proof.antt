@@ -4,10 +4,9 @@ use lib.Seq.{length-take-le}
 use lib.ListN.{length, take, drop, set, getD, length-set}
 use mathlib.Core.List.{_++_}
 use mathlib.Core.Path.{_≡_, refl, sym, ap, _∙_}
-use borrow.Author.Tests.{lt-ltb, le-ltb}
 use borrow.Author.Needs.{needs}
 use native.Mathlib.Omega.{arith}
-use Prim.Native.Nat.{_≤_, _<_, _+_, _-_}
+use Prim.Native.Nat.{_≤_, _+_, _-_}
 use Rattle.line.proofs.output.copy_out.Statement.{statement}
 use Rattle.line.proofs.output.copy_out.Tie as tie
 use Rattle.line.proofs.output.copy_out.Reads as reads

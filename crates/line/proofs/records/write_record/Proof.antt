@@ -1,8 +1,6 @@
 use native.Mathlib.Omega.{arith}
-use lib.ListN.{length}
 use Prim.Native.Nat.{_≤_}
 use Rattle.field.specs.Decimal.{largest}
-use Rattle.field.proofs.SpellingLaws.{Holds}
 use Rattle.line.proofs.RecordLaws.{put-record}
 use Rattle.line.proofs.OutputLaws.{spelled-length-max, fits-record, wrote-as}
 use borrow.Author.Needs.{needs}

@@ -2,8 +2,6 @@ use Rattle.listing.specs.Bytes.{isRefusal}
 use borrow.Author.Tests.{eq-eqb, ne-eqb}
 use Rattle.listing.proofs.bytes.is_refusal.Statement.{statement}
 use Rattle.listing.proofs.bytes.is_refusal.Tie as tie
-use Rattle.listing.proofs.bytes.is_refusal.Reads as reads
-use Rattle.listing.proofs.bytes.is_refusal.Lts as lts
 
 returns : tie.Need-returns
 unfolding isRefusal

@@ -2,9 +2,6 @@ use Rattle.listing.specs.Bytes.{matchAt}
 use borrow.Author.Needs.{needs}
 use Rattle.listing.proofs.bytes.match_at.Statement.{statement}
 use Rattle.listing.proofs.bytes.match_at.Tie as tie
-use Rattle.listing.proofs.bytes.match_at.Reads as reads
-use Rattle.listing.proofs.bytes.match_at.Lts as lts
-use Rattle.listing.proofs.bytes.match_of.Reads as match-of-reads
 
 mul-match-of : tie.Need-mul-match-of
 mul-match-of c = search needs

@@ -3,9 +3,6 @@ use Rattle.listing.specs.Bytes.{numberAt}
 use borrow.Author.Needs.{needs}
 use Rattle.listing.proofs.bytes.number_at.Statement.{statement}
 use Rattle.listing.proofs.bytes.number_at.Tie as tie
-use Rattle.listing.proofs.bytes.number_at.Reads as reads
-use Rattle.listing.proofs.bytes.number_at.Lts as lts
-use Rattle.listing.proofs.bytes.wide.Reads as wide-reads
 
 shared-slice-read-wide : tie.Need-shared-slice-read-wide
 shared-slice-read-wide c = search needs

@@ -2,9 +2,6 @@ use Rattle.listing.specs.Bytes.{replyAt}
 use borrow.Author.Needs.{needs}
 use Rattle.listing.proofs.bytes.reply_at.Statement.{statement}
 use Rattle.listing.proofs.bytes.reply_at.Tie as tie
-use Rattle.listing.proofs.bytes.reply_at.Reads as reads
-use Rattle.listing.proofs.bytes.reply_at.Lts as lts
-use Rattle.listing.proofs.bytes.reply_of.Reads as reply-of-reads
 
 mul-at : tie.Need-mul-at
 mul-at c = search needs

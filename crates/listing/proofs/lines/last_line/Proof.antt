@@ -3,10 +3,6 @@ use borrow.Author.Tests.{eq-eqb, ne-eqb}
 use borrow.Author.Needs.{needs}
 use Rattle.listing.proofs.lines.last_line.Statement.{statement}
 use Rattle.listing.proofs.lines.last_line.Tie as tie
-use Rattle.listing.proofs.lines.last_line.Reads as reads
-use Rattle.listing.proofs.lines.last_line.Lts as lts
-use Rattle.listing.proofs.lines.settled_line.Reads as settled-line-reads
-use Rattle.listing.proofs.lines.stop_line.Reads as stop-line-reads
 
 settled-line-requires : tie.Need-settled-line-requires
 settled-line-requires c κs = search needs

@@ -2,10 +2,6 @@ use Rattle.listing.proofs.Putting.{put-byte}
 use borrow.Author.Needs.{needs}
 use Rattle.listing.proofs.lines.put_byte.Statement.{statement}
 use Rattle.listing.proofs.lines.put_byte.Tie as tie
-use Rattle.listing.proofs.lines.put_byte.Reads as reads
-use Rattle.listing.proofs.lines.put_byte.Lts as lts
-use Rattle.field.proofs.put_hex.Reads as put-hex-reads
-use Rattle.field.proofs.put_word.Reads as put-word-reads
 
 put-hex-requires : tie.Need-put-hex-requires
 put-hex-requires c κs = search needs

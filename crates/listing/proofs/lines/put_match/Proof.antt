@@ -3,9 +3,6 @@ use Rattle.listing.specs.Lines.{matchText}
 use borrow.Author.Needs.{needs}
 use Rattle.listing.proofs.lines.put_match.Statement.{statement}
 use Rattle.listing.proofs.lines.put_match.Tie as tie
-use Rattle.listing.proofs.lines.put_match.Reads as reads
-use Rattle.listing.proofs.lines.put_match.Lts as lts
-use Rattle.field.proofs.put_word.Reads as put-word-reads
 
 enum-told : tie.Need-enum-told
 enum-told c = search needs

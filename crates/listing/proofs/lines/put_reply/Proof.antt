@@ -5,10 +5,6 @@ use Rattle.listing.specs.Lines.{replyText}
 use borrow.Author.Needs.{needs}
 use Rattle.listing.proofs.lines.put_reply.Statement.{statement}
 use Rattle.listing.proofs.lines.put_reply.Tie as tie
-use Rattle.listing.proofs.lines.put_reply.Reads as reads
-use Rattle.listing.proofs.lines.put_reply.Lts as lts
-use Rattle.field.proofs.put_word.Reads as put-word-reads
-use Rattle.listing.proofs.lines.put_byte.Reads as put-byte-reads
 
 enum-told : tie.Need-enum-told
 enum-told c = search needs

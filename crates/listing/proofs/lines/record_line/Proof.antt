@@ -2,13 +2,6 @@ use Rattle.listing.proofs.Putting.{put-record-line}
 use borrow.Author.Needs.{needs}
 use Rattle.listing.proofs.lines.record_line.Statement.{statement}
 use Rattle.listing.proofs.lines.record_line.Tie as tie
-use Rattle.listing.proofs.lines.record_line.Reads as reads
-use Rattle.listing.proofs.lines.record_line.Lts as lts
-use Rattle.field.proofs.no_bytes.Reads as no-bytes-reads
-use Rattle.field.proofs.put_decimal.Reads as put-decimal-reads
-use Rattle.field.proofs.put_word.Reads as put-word-reads
-use Rattle.listing.proofs.lines.put_match.Reads as put-match-reads
-use Rattle.listing.proofs.lines.put_reply.Reads as put-reply-reads
 
 no-bytes-requires : tie.Need-no-bytes-requires
 no-bytes-requires c κs = search needs

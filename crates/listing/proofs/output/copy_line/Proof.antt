@@ -8,8 +8,6 @@ use native.Mathlib.Omega.{arith}
 use Prim.Native.Nat.{_≤_, _-_}
 use Rattle.listing.proofs.output.copy_line.Statement.{statement}
 use Rattle.listing.proofs.output.copy_line.Tie as tie
-use Rattle.listing.proofs.output.copy_line.Reads as reads
-use Rattle.listing.proofs.output.copy_line.Lts as lts
 
 abbrev Inv-loop : tie.InvT-loop
 Inv-loop out₀ at s n k₀ out k = (k ≤ n) × (length out ≡ length out₀) × (out ≡ sets out₀ at (take k (s .bytes)))

@@ -1,8 +1,7 @@
 use borrow.Author.Needs.{needs}
 use native.Mathlib.Omega.{arith}
-use Prim.Native.Nat.{_≤_, _+_, _-_}
+use Prim.Native.Nat.{_≤_, _-_}
 use lib.ListN.{length}
-use mathlib.Core.Path.{sym, subst}
 use Rattle.law.specs.Choice.{via}
 use Rattle.field.proofs.Reading.{got-none, got-one}
 use Rattle.line.proofs.Apart.{tells-board, tells-record}
@@ -17,7 +16,7 @@ use Rattle.text.proofs.buses.all_closed.Reads as all-closed-reads
 use Rattle.text.proofs.buses.buses_after.Reads as buses-after-reads
 
 abbrev Inv-loop : tie.InvT-loop
-Inv-loop text board first at₀ number₀ last₀ buses₀ at number last buses = (at ≤ length text) × (number + 11 ≤ at) × So text board at number last buses
+Inv-loop text board first at₀ number₀ last₀ buses₀ at number last buses = (at ≤ length text) × (number ≤ at) × So text board at number last buses
 
 abbrev μ-loop : tie.MeasureT-loop
 μ-loop text board first at₀ number₀ last₀ buses₀ at number last buses = length text - at

@@ -1,2 +1,0 @@
--- The board: both chips and the two lines.
-pub mod Play

@@ -1,0 +1,2 @@
+-- The controls: both chips' and the two lines.
+pub mod Play

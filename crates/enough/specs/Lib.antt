@@ -1,0 +1,6 @@
+-- The controls decide.
+pub mod Sides
+pub mod Effects
+pub mod OneChip
+pub mod Whole
+pub mod Enough

@@ -1,0 +1,60 @@
+use Rattle.machine.specs.Effects.{flashAfter}
+use borrow.Author.Needs.{needs}
+use Rattle.machine.proofs.effects.change_flash.Statement.{statement}
+use Rattle.machine.proofs.effects.change_flash.Tie as tie
+
+enum-told : tie.Need-enum-told
+enum-told c = search needs
+
+returns : tie.Need-returns
+unfolding flashAfter
+returns c = simp (c .enum-told .given .1)
+
+enum-told-2 : tie.Need-enum-told-2
+enum-told-2 c = search needs
+
+flash-whole-requires : tie.Need-flash-whole-requires
+flash-whole-requires c κs = search needs
+
+same-length : tie.Need-same-length
+same-length c = search needs
+
+same-length-2 : tie.Need-same-length-2
+same-length-2 c = search needs
+
+returns-2 : tie.Need-returns-2
+unfolding flashAfter
+returns-2 c = simp (c .before .before .before .before .before .before .before .enum-told2 .given .1, c .before .before .before .before .flash-whole .ensures)
+
+enum-told-3 : tie.Need-enum-told-3
+enum-told-3 c = search needs
+
+flash-cut-requires : tie.Need-flash-cut-requires
+flash-cut-requires c κs = search needs
+
+same-length-3 : tie.Need-same-length-3
+same-length-3 c = search needs
+
+same-length-4 : tie.Need-same-length-4
+same-length-4 c = search needs
+
+returns-3 : tie.Need-returns-3
+unfolding flashAfter
+returns-3 c = simp (c .before .before .before .before .before .before .before .enum-told3 .given .1, c .before .before .before .before .flash-cut .ensures)
+
+pub change-flash-spec : {M : Type 1} → statement M
+change-flash-spec =
+    tie.close
+    (tie.spec
+    enum-told
+    returns
+    enum-told-2
+    flash-whole-requires
+    same-length
+    same-length-2
+    returns-2
+    enum-told-3
+    flash-cut-requires
+    same-length-3
+    same-length-4
+    returns-3)

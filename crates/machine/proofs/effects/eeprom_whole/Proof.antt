@@ -1,0 +1,48 @@
+use borrow.Author.Needs.{needs}
+use Rattle.machine.proofs.effects.eeprom_whole.Statement.{statement}
+use Rattle.machine.proofs.effects.eeprom_whole.Tie as tie
+
+enum-told : tie.Need-enum-told
+enum-told c = search needs
+
+returns : tie.Need-returns
+returns c = simp (c .enum-told .given .1)
+
+enum-known-cycle : tie.Need-enum-known-cycle
+enum-known-cycle c = search needs
+
+cast-store-page : tie.Need-cast-store-page
+cast-store-page c = search needs
+
+cast-store-page-2 : tie.Need-cast-store-page-2
+cast-store-page-2 c = search needs
+
+cast-store-page-3 : tie.Need-cast-store-page-3
+cast-store-page-3 c = search needs
+
+store-page-requires : tie.Need-store-page-requires
+store-page-requires c κs = search needs
+
+same-length : tie.Need-same-length
+same-length c = search needs
+
+same-length-2 : tie.Need-same-length-2
+same-length-2 c = search needs
+
+returns-2 : tie.Need-returns-2
+returns-2 c = simp (c .before .before .before .before .before .before .before .before .before .before .before .cycle .given .1, c .before .before .before .before .store-page .ensures)
+
+pub eeprom-whole-spec : {M : Type 1} → statement M
+eeprom-whole-spec =
+    tie.close
+    (tie.spec
+    enum-told
+    returns
+    enum-known-cycle
+    cast-store-page
+    cast-store-page-2
+    cast-store-page-3
+    store-page-requires
+    same-length
+    same-length-2
+    returns-2)
