@@ -7,10 +7,9 @@ use lib.Dec.{eqb, ltb}
 use lib.ListN.{length}
 use lib.Seq.{sets}
 use Rattle.law.specs.Choice.{pick}
-use Rattle.record.specs.declared.Chip.{Chip}
 use Rattle.record.specs.Lengths.{repliesLength, resultLength, replyPlaces}
 use Rattle.image.specs.Image.{Image, spans}
-use Rattle.image.specs.Images.{Images, imagesOf, every, keptBytes}
+use Rattle.image.specs.Images.{Images, imagesOf, everyChip, imageAt, keptBytes}
 
 -- what a replay changes: the images with their masks, the replies, the result
 pub record Buffers : Type 0 where
@@ -29,20 +28,16 @@ clear [] ms = true
 clear (v ∷ vs) [] = true
 clear (v ∷ vs) (m ∷ ms) = pick (eqb (bitAnd v m) 0) (clear vs ms) false
 
--- an image is as long as its chip's has to be, and no bit of it is set in both
-abbrev pub isKept : Chip → Image → Bool
-isKept chip i = spans (keptBytes chip) i
-
-abbrev pub isClear : Chip → Image → Bool
-isClear chip i = clear (i .values) (i .masks)
+abbrev pub isClear : Image → Bool
+isClear i = clear (i .values) (i .masks)
 
 -- none of the grounds of refusal 1 holds: every length is right, and in each image no bit is set in both
 unfoldable pub fit : Buffers → Bool
 fit x =
-    pick (every isKept (x .images))
+    pick (everyChip (λ chip. spans (keptBytes chip) (imageAt chip (x .images))))
     (pick (eqb (length (x .replies)) repliesLength)
     (pick (eqb (length (x .result)) resultLength)
-    (every isClear (x .images)) false) false) false
+    (everyChip (λ chip. isClear (imageAt chip (x .images)))) false) false) false
 
 -- the result's numbers: 'four bytes each, low byte first'
 abbrev pub word : ℕ → List ℕ

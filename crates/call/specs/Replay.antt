@@ -75,17 +75,13 @@ unfoldable pub shown : Board → List Record → meaning.Answer Machine Reply �
 shown b rs (meaning.settled v) = shownAs b (answerNumber Settled) 0 rs v
 shown b rs (meaning.stopped n t v) = shownAs b (answerNumber (reasonAnswer n)) t (before (onMachine b) t rs) v
 
--- the machine at the start, with the images as they are lent
-abbrev pub startWith : Board → Buffers → Machine
-startWith b x = machineAtStart b (x .images)
-
 -- The order of the checks: 1, 2, then the first bad line, then by stamp. A readable text is answered as demand 3 says: z is what the demand admits. Every text is readable or has a first bad line.
 pub record Replays (text : List ℕ) (x : Buffers) (e : Ended) : Type 0 where
   pub unfit : fit x ≡ false → e ≡ refusedAs BadBuffers 0 x
   pub long : fit x ≡ true → ltb textLimit (length text) ≡ true → e ≡ refusedAs TooLong 0 x
   pub bad : fit x ≡ true → ltb textLimit (length text) ≡ false → (a : Answer) (n : ℕ) → Refused text a n → e ≡ refusedAs a n x
   pub played : fit x ≡ true → ltb textLimit (length text) ≡ false → (b : Board) (rs : List Record) → Readable text b rs →
-      (z : meaning.Answer Machine Reply) × Means (onMachine b) rs (startWith b x) z × (e ≡ shown b rs z)
+      (z : meaning.Answer Machine Reply) × Means (onMachine b) rs (machineAtStart b (x .images)) z × (e ≡ shown b rs z)
   pub read : fit x ≡ true → ltb textLimit (length text) ≡ false → ((b : Board) × (rs : List Record) × Readable text b rs) ⊎ ((a : Answer) × (n : ℕ) × Refused text a n)
 
 -- for a C caller 0 is the flash, any other number the EEPROM

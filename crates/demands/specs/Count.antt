@@ -19,13 +19,13 @@ use Rattle.record.specs.declared.Match.{Match}
 use Rattle.record.specs.declared.Match.the-variants.{Nothing, Agrees, Disagrees}
 use Rattle.record.specs.Replies.{matchNumber}
 use Rattle.machine.specs.Replies.{compared}
-use Rattle.machine.specs.Machine.{Machine, onMachine}
+use Rattle.machine.specs.Machine.{Machine, machineAtStart, onMachine}
 use Rattle.text.specs.Texts.{textLimit, Readable}
 use Rattle.text.proofs.Theorems.{few-records}
 use Rattle.record.specs.Lengths.{repliesLength}
 use Rattle.buffers.specs.Buffers.{Buffers, fit, resultBytes}
 use Rattle.call.specs.Play.{twos}
-use Rattle.call.specs.Replay.{Ended, replyLines, countTwos, padded, Replays, startWith}
+use Rattle.call.specs.Replay.{Ended, replyLines, countTwos, padded, Replays}
 use Rattle.call.proofs.Playing.{two-most}
 use Rattle.demands.specs.Shown.{numberOf, stampOf, recordsOf, leftBy, call-left}
 
@@ -98,11 +98,11 @@ module _ {text : List ℕ} {x : Buffers} {e : Ended} {b : Board} {rs : List Reco
       let z = call-left p f l q in (
         stampOf (z .0),
         subst (λ (w : Ended). w .buffers .result ≡ resultBytes (w .answer) (stampOf (z .0)) (matchesTwo (w .buffers .replies))) (sym (z .2))
-            (left-count b (numberOf (z .0)) (stampOf (z .0)) (recordsOf b (z .0) rs) (startWith b x)),
+            (left-count b (numberOf (z .0)) (stampOf (z .0)) (recordsOf b (z .0) rs) (machineAtStart b (x .images))),
       )
 
   -- which its four bytes hold
   pub count-fits : matchesTwo (e .buffers .replies) ≤ 9360
   count-fits =
       let z = call-left p f l q in
-      rw (z .2) (omega (arith, left-small b (numberOf (z .0)) (stampOf (z .0)) (recordsOf b (z .0) rs) (startWith b x), records-most b (z .0) rs, few-records q (ltb-false _ _ l)))
+      rw (z .2) (omega (arith, left-small b (numberOf (z .0)) (stampOf (z .0)) (recordsOf b (z .0) rs) (machineAtStart b (x .images)), records-most b (z .0) rs, few-records q (ltb-false _ _ l)))

@@ -34,55 +34,47 @@ use Rattle.flash.specs.declared.FlashCycle.{FlashCycle}
 use Rattle.flash.specs.declared.FlashCycle.the-variants as flash-cycle
 use Rattle.eeprom.specs.declared.Eeprom.{Eeprom}
 use Rattle.eeprom.specs.declared.EepromCycle.{EepromCycle}
+use Rattle.eeprom.specs.declared.Sent.{Sent}
 use Rattle.eeprom.specs.declared.EepromCycle.the-variants as eeprom-cycle
 use Rattle.machine.specs.declared.effects.Stroke.{Stroke}
 use Rattle.machine.specs.declared.effects.Stroke.the-variants.{Nothing, Whole, Cut}
-use Rattle.machine.specs.Effects.{sectorOfPage, inSector, reached, flashWhole, flashCut, flashAfter, eepromWhole, eepromCut, eepromAfter, strokeFor, imagesAfter}
+use Rattle.machine.specs.Effects.{sectorOfPage, inSector, reached, flashBy, flashAfter, eepromBy, eepromAfter, strokeFor, imagesAfter}
 use Rattle.machine.specs.Replies.{delivered}
-use Rattle.machine.specs.Machine.{Machine, imageFor, onMachine, playOn, saysOn}
+use Rattle.machine.specs.Machine.{Machine, machineAtStart, imageFor, onMachine, playOn, saysOn}
 use Rattle.record.specs.Lengths.{repliesLength}
 use Rattle.buffers.specs.Buffers.{Buffers, fit}
 use Rattle.buffers.proofs.Fit.{Fit, fit-says}
 use Rattle.text.specs.Texts.{textLimit, Readable}
-use Rattle.call.specs.Replay.{Ended, refusedAs, replyLines, padded, Replays, startWith}
+use Rattle.call.specs.Replay.{Ended, refusedAs, replyLines, padded, Replays}
 use Rattle.demands.specs.Readable.{readable-back}
 use Rattle.demands.specs.Shown.{recordsOf, leftBy, left-shown, call-left}
 use Rattle.demands.specs.Ways.{Way, unfit, long, bad, played, way}
 
 -- ---- a cycle keeps it
-flash-whole : (watched : ℕ) (c : FlashCycle) (page : List ℕ) (s : FlashStatus) (i : Image) → Clean i → Clean (flashWhole watched c page s i)
-flash-whole watched flash-cycle.None page s i h = h
-flash-whole watched (flash-cycle.Program n) page s i h = of-both Clean (eqb (sectorOfPage n) watched) (programPage (inSector n) page i) i (clean-programPage i h _ page) h
-flash-whole watched (flash-cycle.SectorErase k) page s i h = of-both Clean (eqb k watched) (eraseAll i) i (clean-eraseAll i h) h
-flash-whole watched flash-cycle.ChipErase page s i h = of-both Clean (reached s watched) (eraseAll i) i (clean-eraseAll i h) h
-flash-whole watched (flash-cycle.WriteStatus bits) page s i h = h
-
-flash-cut : (watched : ℕ) (c : FlashCycle) (page : List ℕ) (s : FlashStatus) (i : Image) → Clean i → Clean (flashCut watched c page s i)
-flash-cut watched flash-cycle.None page s i h = h
-flash-cut watched (flash-cycle.Program n) page s i h = of-both Clean (eqb (sectorOfPage n) watched) (cutProgramPage (inSector n) page i) i (clean-cutProgramPage i h (inSector n) page) h
-flash-cut watched (flash-cycle.SectorErase k) page s i h = of-both Clean (eqb k watched) (cutEraseAll i) i (clean-cutEraseAll i h) h
-flash-cut watched flash-cycle.ChipErase page s i h = of-both Clean (reached s watched) (cutEraseAll i) i (clean-cutEraseAll i h) h
-flash-cut watched (flash-cycle.WriteStatus bits) page s i h = h
+module _ (programmed : ℕ → List ℕ → Image → Image) (erased : Image → Image) where
+  flash-by : (i : Image) → Clean i → ((n : ℕ) (page : List ℕ) → Clean (programmed n page i)) → Clean (erased i) →
+      (watched : ℕ) (c : FlashCycle) (page : List ℕ) (s : FlashStatus) → Clean (flashBy programmed erased watched c page s i)
+  flash-by i h p e watched flash-cycle.None page s = h
+  flash-by i h p e watched (flash-cycle.Program n) page s = of-both Clean (eqb (sectorOfPage n) watched) (programmed (inSector n) page i) i (p (inSector n) page) h
+  flash-by i h p e watched (flash-cycle.SectorErase k) page s = of-both Clean (eqb k watched) (erased i) i e h
+  flash-by i h p e watched flash-cycle.ChipErase page s = of-both Clean (reached s watched) (erased i) i e h
+  flash-by i h p e watched (flash-cycle.WriteStatus bits) page s = h
 
 flash-after : (k : Stroke) (watched : ℕ) (x : Flash) (i : Image) → Clean i → Clean (flashAfter k watched x i)
 unfolding flashAfter
 flash-after Nothing watched x i h = h
-flash-after Whole watched x i h = flash-whole watched (x .cycle) (x .page) (x .status) i h
-flash-after Cut watched x i h = flash-cut watched (x .cycle) (x .page) (x .status) i h
+flash-after Whole watched x i h = flash-by programPage eraseAll i h (clean-programPage i h) (clean-eraseAll i h) watched (x .cycle) (x .page) (x .status)
+flash-after Cut watched x i h = flash-by cutProgramPage cutEraseAll i h (clean-cutProgramPage i h) (clean-cutEraseAll i h) watched (x .cycle) (x .page) (x .status)
 
-eeprom-whole : (c : EepromCycle) (page : List ℕ) (i : Image) → Clean i → Clean (eepromWhole c page i)
-eeprom-whole eeprom-cycle.None page i h = h
-eeprom-whole (eeprom-cycle.Write s) page i h = clean-storePage i h (s .page) (s .first) (s .count) page
-
-eeprom-cut : (c : EepromCycle) (i : Image) → Clean i → Clean (eepromCut c i)
-eeprom-cut eeprom-cycle.None i h = h
-eeprom-cut (eeprom-cycle.Write s) i h = clean-cutStorePage i h (s .page) (s .first) (s .count)
+eeprom-by : (stored : Sent → Image → Image) (i : Image) → Clean i → ((s : Sent) → Clean (stored s i)) → (c : EepromCycle) → Clean (eepromBy stored c i)
+eeprom-by stored i h p eeprom-cycle.None = h
+eeprom-by stored i h p (eeprom-cycle.Write s) = p s
 
 eeprom-after : (k : Stroke) (x : Eeprom) (i : Image) → Clean i → Clean (eepromAfter k x i)
 unfolding eepromAfter
 eeprom-after Nothing x i h = h
-eeprom-after Whole x i h = eeprom-whole (x .cycle) (x .page) i h
-eeprom-after Cut x i h = eeprom-cut (x .cycle) i h
+eeprom-after Whole x i h = eeprom-by _ i h (λ s. clean-storePage i h (s .page) (s .first) (s .count) (x .page)) (x .cycle)
+eeprom-after Cut x i h = eeprom-by _ i h (λ s. clean-cutStorePage i h (s .page) (s .first) (s .count)) (x .cycle)
 
 -- ---- a record keeps it, and so do all records
 images-clean : (b : Board) (c : Controls) (v : Event) (k : Skeleton) (x : Images) → AllClean x → AllClean (imagesAfter b c v k x)
@@ -160,7 +152,7 @@ way-clean text x e h (unfit f k) = rw k (h .clean)
 way-clean text x e h (long f l k) = rw k (h .clean)
 way-clean text x e h (bad f l a n w k) = rw k (h .clean)
 way-clean text x e h (played f l b rs q z d k) =
-    let m = startWith b x in
+    let m = machineAtStart b (x .images) in
     rw (k ∙ left-shown b rs (readable-back q) m z d) (left-clean b _ _ _ m (h .clean))
 
 -- lent buffers that fit are given back with no bit set both in a value and in its mask, whatever the text and the answer
@@ -173,7 +165,7 @@ pub replies-disjoint : {text : List ℕ} {x : Buffers} {e : Ended} {b : Board} {
 unfolding leftBy
 replies-disjoint {text} {x} {e} {b} {rs} p f l q k =
     let h = fit-says x f in
-    let m = startWith b x in
+    let m = machineAtStart b (x .images) in
     let z = call-left p f l q in
     let ps = recordsOf b (z .0) rs in
     rw (z .2) (padded-sure ps (said (onMachine b) ps m) (said-sure b ps m (h .clean)) k)

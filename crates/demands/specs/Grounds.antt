@@ -11,10 +11,10 @@ use Rattle.record.specs.declared.Answer.the-variants.{BadBuffers, TooLong}
 use Rattle.record.specs.declared.Board.{Board}
 use Rattle.record.specs.declared.Record.{Record}
 use Rattle.record.specs.Answers.{answerNumber}
-use Rattle.machine.specs.Machine.{onMachine}
+use Rattle.machine.specs.Machine.{machineAtStart, onMachine}
 use Rattle.text.specs.Texts.{textLimit, Readable}
 use Rattle.buffers.specs.Buffers.{Buffers, fit}
-use Rattle.call.specs.Replay.{Ended, reasonAnswer, Replays, startWith}
+use Rattle.call.specs.Replay.{Ended, reasonAnswer, Replays}
 use Rattle.demands.specs.Ways.{Way, unfit, long, bad, played, way, refused-line, line-number, reason-number, shown-answer}
 use Rattle.demands.specs.FirstBadLine.{number-of}
 use Rattle.demands.specs.Stops.{stop-answer, settled-means}
@@ -43,14 +43,14 @@ module _ {text : List ℕ} {x : Buffers} {e : Ended} where
 
 module _ {text : List ℕ} {x : Buffers} {e : Ended} (p : Replays text x e) where
   -- 0 exactly for a text that is taken and in which no stamp has a reason
-  pub settled-grounds : (e .answer ≡ 0) ↔ ((b : Board) × (rs : List Record) × Taken text x b rs × ((t : ℕ) → Passes (onMachine b) rs (startWith b x) t))
+  pub settled-grounds : (e .answer ≡ 0) ↔ ((b : Board) × (rs : List Record) × Taken text x b rs × ((t : ℕ) → Passes (onMachine b) rs (machineAtStart b (x .images)) t))
   settled-grounds = (
     (λ h. let k = taken (way p) (inl h) in (k .0, k .1, k .2, settled-means p (k .2 .fits) (k .2 .within) (k .2 .readable) .0 h)),
     λ h. settled-means p (h .2 .fits) (h .2 .within) (h .2 .readable) .1 (h .3),
   )
 
   -- 6, 7, 8 exactly for a text that is taken and in which that reason is the first at the earliest stamp that has one
-  pub stop-grounds : (n : Reason) → (e .answer ≡ answerNumber (reasonAnswer n)) ↔ ((b : Board) × (rs : List Record) × Taken text x b rs × (t : ℕ) × Earliest (onMachine b) rs (startWith b x) n t)
+  pub stop-grounds : (n : Reason) → (e .answer ≡ answerNumber (reasonAnswer n)) ↔ ((b : Board) × (rs : List Record) × Taken text x b rs × (t : ℕ) × Earliest (onMachine b) rs (machineAtStart b (x .images)) n t)
   stop-grounds n = (
     (λ h.
         let s = reason-number n in

@@ -17,11 +17,11 @@ use Rattle.record.specs.declared.Board.{Board}
 use Rattle.record.specs.declared.Record.{Record}
 use Rattle.record.specs.declared.Reply.{Reply}
 use Rattle.machine.specs.Replies.{compared}
-use Rattle.machine.specs.Machine.{Machine, channelOf, onMachine, playOn, saysOn}
+use Rattle.machine.specs.Machine.{Machine, machineAtStart, channelOf, onMachine, playOn, saysOn}
 use Rattle.text.specs.Texts.{textLimit, spelledTrace, Readable}
 use Rattle.buffers.specs.Buffers.{Buffers, fit, resultBytes}
 use Rattle.call.specs.Play.{twos}
-use Rattle.call.specs.Replay.{Ended, countTwos, shown, Replays, startWith}
+use Rattle.call.specs.Replay.{Ended, countTwos, shown, Replays}
 use Rattle.demands.specs.Readable.{readable-back}
 use Rattle.demands.specs.Shown.{numberOf, stampOf, recordsOf, outcomeOf, leftBy, left-shown}
 use Rattle.demands.specs.Rewritten.{lines-readable, lines-length}
@@ -129,7 +129,7 @@ module _ (b : Board) (rs ls : List Record) (a : Allowed (onMachine b) rs ls) (ba
 module _ {text : List ℕ} {x : Buffers} {e e′ : Ended} {b : Board} {rs ls : List Record}
     (q : Readable text b rs) (a : Allowed (onMachine b) rs ls) (p : Replays text x e) (p′ : Replays (spelledTrace b ls) x e′) where
   abbrev start : Machine
-  start = startWith b x
+  start = machineAtStart b (x .images)
 
   within : (t : Bool) → ltb textLimit (length text) ≡ t → ltb textLimit (length (spelledTrace b ls)) ≡ t
   within t l = ap (ltb textLimit) (lines-length b rs ls a ∙ sym (ap length (q .is))) ∙ l

@@ -17,12 +17,12 @@ use Rattle.record.specs.declared.Skeleton.the-variants as skeleton
 use Rattle.record.specs.Replies.{replyKind}
 use Rattle.image.specs.Image.{Image}
 use Rattle.machine.specs.Replies.{delivered}
-use Rattle.machine.specs.Machine.{Machine, onMachine, saysOn}
+use Rattle.machine.specs.Machine.{Machine, machineAtStart, onMachine, saysOn}
 use Rattle.text.specs.Texts.{textLimit, Readable}
 use Rattle.record.specs.Lengths.{repliesLength}
 use Rattle.buffers.specs.Buffers.{Buffers, fit, resultBytes}
 use Rattle.call.specs.Play.{replyLine}
-use Rattle.call.specs.Replay.{Ended, replyLines, countTwos, padded, Replays, startWith}
+use Rattle.call.specs.Replay.{Ended, replyLines, countTwos, padded, Replays}
 use Rattle.demands.specs.Readable.{readable-back}
 use Rattle.demands.specs.Stops.{StopsAt, stop-shows, settled-shows}
 
@@ -70,7 +70,7 @@ kind-says b s r = delivered-kind _ _
 
 module _ {text : List ℕ} {x : Buffers} {e : Ended} {b : Board} {rs : List Record} (p : Replays text x e) (f : fit x ≡ true) (l : length text ≤ textLimit) (q : Readable text b rs) where
   abbrev start : Machine
-  start = startWith b x
+  start = machineAtStart b (x .images)
 
   -- settled: the replies and the count of all lines, played as they stand
   pub settled-lines : e .answer ≡ 0 → e .buffers .replies ≡ padded (replyLines rs (said (onMachine b) rs start))

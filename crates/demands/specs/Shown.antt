@@ -14,10 +14,10 @@ use Rattle.record.specs.declared.Record.{Record}
 use Rattle.record.specs.declared.Reply.{Reply}
 use Rattle.record.specs.declared.Answer.the-variants.{Settled}
 use Rattle.record.specs.Answers.{answerNumber}
-use Rattle.machine.specs.Machine.{Machine, onMachine}
+use Rattle.machine.specs.Machine.{Machine, machineAtStart, onMachine}
 use Rattle.text.specs.Texts.{textLimit, Readable}
 use Rattle.buffers.specs.Buffers.{Buffers, fit, resultBytes}
-use Rattle.call.specs.Replay.{Ended, endedAs, replyLines, countTwos, padded, reasonAnswer, shownAs, shown, Replays, startWith}
+use Rattle.call.specs.Replay.{Ended, endedAs, replyLines, countTwos, padded, reasonAnswer, shownAs, shown, Replays}
 use Rattle.demands.specs.Readable.{readable-back}
 
 -- the answer's number and stamp, the records that it shows, all or those before the stop's stamp, and how they end
@@ -71,8 +71,8 @@ left-shown b rs back m z h =
 
 -- the same of the call
 pub call-left : {text : List ℕ} {x : Buffers} {e : Ended} {b : Board} {rs : List Record} → Replays text x e → fit x ≡ true → ltb textLimit (length text) ≡ false → Readable text b rs →
-    (z : meaning.Answer Machine Reply) × Means (onMachine b) rs (startWith b x) z
-    × (e ≡ leftBy b (numberOf z) (stampOf z) (recordsOf b z rs) (startWith b x))
+    (z : meaning.Answer Machine Reply) × Means (onMachine b) rs (machineAtStart b (x .images)) z
+    × (e ≡ leftBy b (numberOf z) (stampOf z) (recordsOf b z rs) (machineAtStart b (x .images)))
 call-left {text} {x} {e} {b} {rs} p f l q =
     let z = p .played f l b rs q in
     (z .0, z .1, z .2 ∙ left-shown b rs (readable-back q) _ (z .0) (z .1))

@@ -22,11 +22,11 @@ use Rattle.line.specs.Boards.{BoardOk}
 use Rattle.controls.specs.Play.{movedOf}
 use Rattle.machine.specs.Effects.{flashAfter, eepromAfter}
 use Rattle.machine.specs.Replies.{delivered, compared}
-use Rattle.machine.specs.Machine.{onMachine, playOn, saysOn}
+use Rattle.machine.specs.Machine.{machineAtStart, onMachine, playOn, saysOn}
 use Rattle.text.specs.Texts.{spelledTrace}
 use Rattle.buffers.specs.Buffers.{Buffers, fit, resultBytes}
 use Rattle.buffers.proofs.Fit.{fit-says}
-use Rattle.call.specs.Replay.{Ended, countTwos, shown, shownAs, Replays, startWith}
+use Rattle.call.specs.Replay.{Ended, countTwos, shown, shownAs, Replays}
 use Rattle.demands.specs.Bench.{plain, onF, wren, Answered}
 use Rattle.demands.specs.BenchCases.{case11, case12}
 use Rattle.demands.specs.Readable.{readable-back, status-known}
@@ -51,7 +51,7 @@ module _ (f : List ℕ → Buffers → Ended) (keeps : Keeps f) (x : Buffers) (h
   board-settles b k =
       let w = board-written b k in
       ap (λ (e : Ended). e .answer)
-      (means-shown (keeps (spelledTrace b []) x) h (w .short) (w .reads) _ (means-end (onMachine b) (startWith b x) (status-known b (x .images))))
+      (means-shown (keeps (spelledTrace b []) x) h (w .short) (w .reads) _ (means-end (onMachine b) (machineAtStart b (x .images)) (status-known b (x .images))))
 
   -- and so is the listing's text, whatever byte was recorded for the status
   pub listing-settles : (so : ℕ) → so < 256 → f (spelledTrace plain (listing so)) x .answer ≡ 0
@@ -82,7 +82,7 @@ module _ (f : List ℕ → Buffers → Ended) (keeps : Keeps f) (x : Buffers) (h
       each-reply (keeps (spelledTrace plain programmed) x) h (programmed-written .short) (programmed-written .reads) (wren 10 ++ sent) (onF 30 flash.End) [] refl program-settles
 
   -- the listing's count is 0 where the status 00 was recorded as 00, and 1 where it was recorded as 01
-  counted : (so : ℕ) → so < 256 → f (spelledTrace plain (listing so)) x .buffers .result ≡ resultBytes 0 0 (countTwos (listing so) (said (onMachine plain) (listing so) (startWith plain x)))
+  counted : (so : ℕ) → so < 256 → f (spelledTrace plain (listing so)) x .buffers .result ≡ resultBytes 0 0 (countTwos (listing so) (said (onMachine plain) (listing so) (machineAtStart plain (x .images))))
   counted so k =
       settled-count (keeps (spelledTrace plain (listing so)) x) h (listing-written so k .short) (listing-written so k .reads) (listing-settles so k)
 

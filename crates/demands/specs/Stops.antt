@@ -19,10 +19,10 @@ use Rattle.record.specs.declared.Record.{Record}
 use Rattle.record.specs.declared.Reply.{Reply}
 use Rattle.record.specs.Answers.{answerNumber}
 use Rattle.field.specs.Decimal.{largest}
-use Rattle.machine.specs.Machine.{Machine, onMachine}
+use Rattle.machine.specs.Machine.{Machine, machineAtStart, onMachine}
 use Rattle.text.specs.Texts.{textLimit, Readable}
 use Rattle.buffers.specs.Buffers.{Buffers, fit, resultBytes}
-use Rattle.call.specs.Replay.{Ended, replyLines, countTwos, padded, reasonAnswer, shownAs, shown, Replays, startWith}
+use Rattle.call.specs.Replay.{Ended, replyLines, countTwos, padded, reasonAnswer, shownAs, shown, Replays}
 use Rattle.demands.specs.Readable.{readable-back, stamps-fit, status-known}
 use Rattle.demands.specs.Result.{number-one}
 use Rattle.demands.specs.Ways.{reason-number}
@@ -100,7 +100,7 @@ module _ (b : Board) (rs : List Record) (e : Ended) where
 module _ {text : List ℕ} {x : Buffers} {e : Ended} {b : Board} {rs : List Record} (p : Replays text x e) (f : fit x ≡ true) (l : length text ≤ textLimit) (q : Readable text b rs) where
   -- the start, with the images as they are lent
   abbrev start : Machine
-  start = startWith b x
+  start = machineAtStart b (x .images)
 
   answered : (z : meaning.Answer Machine Reply) × Means (onMachine b) rs start z × (e ≡ shown b rs z)
   answered = p .played f (le-ltb _ _ l) b rs q

@@ -19,20 +19,20 @@ use Rattle.record.specs.declared.Answer.the-variants.{BadBuffers, TooLong, BadL
 use Rattle.record.specs.Answers.{answerNumber}
 use Rattle.field.specs.Decimal.{largest}
 use Rattle.line.specs.Boards.{spelledBoard}
-use Rattle.machine.specs.Machine.{Machine, onMachine}
+use Rattle.machine.specs.Machine.{Machine, machineAtStart, onMachine}
 use Rattle.text.specs.Texts.{textLimit, spelledAll, spelledTrace, Readable, Wrong, Refused}
 use Rattle.text.specs.Texts.Wrong.{noRecord, falls, cannot}
 use Rattle.text.specs.Texts.Refused.{noBoard, badLine}
 use Rattle.text.proofs.Theorems.{seven-each}
 use Rattle.buffers.specs.Buffers.{Buffers, fit}
-use Rattle.call.specs.Replay.{Ended, refusedAs, reasonAnswer, shownAs, shown, Replays, startWith}
+use Rattle.call.specs.Replay.{Ended, refusedAs, reasonAnswer, shownAs, shown, Replays}
 
 pub data Way (text : List ℕ) (x : Buffers) (e : Ended) : Type 0 where
   unfit : fit x ≡ false → e ≡ refusedAs BadBuffers 0 x → Way text x e
   long : fit x ≡ true → textLimit < length text → e ≡ refusedAs TooLong 0 x → Way text x e
   bad : fit x ≡ true → length text ≤ textLimit → (a : Answer) (n : ℕ) → Refused text a n → e ≡ refusedAs a n x → Way text x e
   played : fit x ≡ true → length text ≤ textLimit → (b : Board) (rs : List Record) → Readable text b rs →
-      (z : meaning.Answer Machine Reply) → Means (onMachine b) rs (startWith b x) z → e ≡ shown b rs z → Way text x e
+      (z : meaning.Answer Machine Reply) → Means (onMachine b) rs (machineAtStart b (x .images)) z → e ≡ shown b rs z → Way text x e
 
 within : (text : List ℕ) {x : Buffers} {e : Ended} → Replays text x e → fit x ≡ true → ltb textLimit (length text) ≡ false → Way text x e
 within text p f l =

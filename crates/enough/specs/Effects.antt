@@ -33,24 +33,22 @@ use Rattle.eeprom.specs.Told as eeprom-told
 use Rattle.image.specs.Image.{Image}
 use Rattle.image.specs.Cycles.{programPage, cutProgramPage, eraseAll, cutEraseAll, storePage, cutStorePage}
 use Rattle.machine.specs.declared.effects.Stroke.the-variants.{Nothing, Cut}
-use Rattle.machine.specs.Effects.{strokeOf, lineStroke, sectorOfPage, inSector, flashWhole, flashCut, flashAfter, eepromWhole, eepromCut, eepromAfter}
+use Rattle.machine.specs.Effects.{strokeOf, lineStroke, sectorOfPage, inSector, flashBy, flashAfter, eepromBy, eepromAfter}
 use Rattle.machine.specs.Replies.{delivered}
 use Rattle.enough.specs.Sides.{flashOver, eepromOver}
 
-abbrev pub flashWholeOf : ℕ → flash-told.Running → Image → Image
-flashWholeOf w (flash-told.programs n page) i = pick (eqb (sectorOfPage n) w) (programPage (inSector n) page i) i
-flashWholeOf w (flash-told.erases n) i = pick (eqb n w) (eraseAll i) i
-flashWholeOf w (flash-told.erasesAll bits) i = pick (not (sectorLocked bits w)) (eraseAll i) i
-flashWholeOf w (flash-told.setsStatus bits) i = i
-
-abbrev pub flashCutOf : ℕ → flash-told.Running → Image → Image
-flashCutOf w (flash-told.programs n page) i = pick (eqb (sectorOfPage n) w) (cutProgramPage (inSector n) page i) i
-flashCutOf w (flash-told.erases n) i = pick (eqb n w) (cutEraseAll i) i
-flashCutOf w (flash-told.erasesAll bits) i = pick (not (sectorLocked bits w)) (cutEraseAll i) i
-flashCutOf w (flash-told.setsStatus bits) i = i
+abbrev pub flashOf : (ℕ → List ℕ → Image → Image) → (Image → Image) → ℕ → flash-told.Running → Image → Image
+flashOf programmed erased w (flash-told.programs n page) i = pick (eqb (sectorOfPage n) w) (programmed (inSector n) page i) i
+flashOf programmed erased w (flash-told.erases n) i = pick (eqb n w) (erased i) i
+flashOf programmed erased w (flash-told.erasesAll bits) i = pick (not (sectorLocked bits w)) (erased i) i
+flashOf programmed erased w (flash-told.setsStatus bits) i = i
 
 abbrev pub flashEffects : Board → Effects Record Skeleton Reply Image flash-told.Running
-flashEffects b = record { whole = flashWholeOf (b .sector); cut = flashCutOf (b .sector); deliver = λ i r k. delivered i k }
+flashEffects b = record {
+  whole = flashOf programPage eraseAll (b .sector);
+  cut = flashOf cutProgramPage cutEraseAll (b .sector);
+  deliver = λ i r k. delivered i k;
+}
 
 abbrev pub eepromEffects : Effects Record Skeleton Reply Image eeprom-told.Writing
 eepromEffects = record {
@@ -62,7 +60,7 @@ eepromEffects = record {
 module _ (b : Board) where
   -- ---- the flash
   whole-is : (c : FlashCycle) (st : FlashStatus) (page : List ℕ) (i : Image) →
-      flashWhole (b .sector) c page st i ≡ imageBus (flashOver b) (flashEffects b) ends (flash-told.runsIn c st page) i
+      flashBy programPage eraseAll (b .sector) c page st i ≡ imageBus (flashOver b) (flashEffects b) ends (flash-told.runsIn c st page) i
   unfolding imageBus
   whole-is flash-cycle.None st page i = refl
   whole-is (flash-cycle.Program n) st page i = refl
@@ -72,7 +70,7 @@ module _ (b : Board) where
   whole-is (flash-cycle.WriteStatus bits) st page i = refl
 
   cut-is : (c : FlashCycle) (st : FlashStatus) (page : List ℕ) (i : Image) →
-      flashCut (b .sector) c page st i ≡ imageLine (flashOver b) (flashEffects b) (flash-told.runsIn c st page) idle i
+      flashBy cutProgramPage cutEraseAll (b .sector) c page st i ≡ imageLine (flashOver b) (flashEffects b) (flash-told.runsIn c st page) idle i
   unfolding imageLine
   cut-is flash-cycle.None st page i = refl
   cut-is (flash-cycle.Program n) st page i = refl
@@ -106,12 +104,12 @@ module _ (b : Board) where
   flash-line e f l i = line-by (goesOff l e) (lockComesOn l e) f i
 
   -- ---- the EEPROM
-  eeprom-whole-is : (c : EepromCycle) (page : List ℕ) (i : Image) → eepromWhole c page i ≡ imageBus (eepromOver b) eepromEffects ends (eeprom-told.runsIn c page) i
+  eeprom-whole-is : (c : EepromCycle) (page : List ℕ) (i : Image) → eepromBy (λ s. storePage (s .page) (s .first) (s .count) page) c i ≡ imageBus (eepromOver b) eepromEffects ends (eeprom-told.runsIn c page) i
   unfolding imageBus
   eeprom-whole-is eeprom-cycle.None page i = refl
   eeprom-whole-is (eeprom-cycle.Write s) page i = refl
 
-  eeprom-cut-is : (c : EepromCycle) (page : List ℕ) (i : Image) → eepromCut c i ≡ imageLine (eepromOver b) eepromEffects (eeprom-told.runsIn c page) idle i
+  eeprom-cut-is : (c : EepromCycle) (page : List ℕ) (i : Image) → eepromBy (λ s. cutStorePage (s .page) (s .first) (s .count)) c i ≡ imageLine (eepromOver b) eepromEffects (eeprom-told.runsIn c page) idle i
   unfolding imageLine
   eeprom-cut-is eeprom-cycle.None page i = refl
   eeprom-cut-is (eeprom-cycle.Write s) page i = refl

@@ -1,11 +1,10 @@
--- What is said of every chip, or of every chip's image, chip by chip. Assumes nothing.
+-- What is said of every chip, chip by chip. Assumes nothing.
 use mathlib.Core.Path.{_≡_}
 use mathlib.Core.Bool.{Bool, true}
 use Rattle.law.specs.Choice.{both}
 use Rattle.record.specs.declared.Chip.{Chip}
 use Rattle.record.specs.declared.Chip.the-variants.{Flash, Eeprom}
-use Rattle.image.specs.Image.{Image}
-use Rattle.image.specs.Images.{Images, imageAt, everyChip, every}
+use Rattle.image.specs.Images.{everyChip}
 
 module _ (test : Chip → Bool) where
   pub chip-by-chip : everyChip test ≡ true → (chip : Chip) → test chip ≡ true
@@ -14,10 +13,3 @@ module _ (test : Chip → Bool) where
 
   pub all-chips : ((chip : Chip) → test chip ≡ true) → everyChip test ≡ true
   all-chips h = rw (h Flash, h Eeprom)
-
-module _ (test : Chip → Image → Bool) (x : Images) where
-  pub every-each : every test x ≡ true → (chip : Chip) → test chip (imageAt chip x) ≡ true
-  every-each = chip-by-chip (λ chip. test chip (imageAt chip x))
-
-  pub each-every : ((chip : Chip) → test chip (imageAt chip x) ≡ true) → every test x ≡ true
-  each-every = all-chips (λ chip. test chip (imageAt chip x))

@@ -7,21 +7,9 @@ use borrow.Author.Tests.{eq-eqb, ne-eqb, eqb-true, lt-ltb, le-ltb}
 use lib.ListN.{length}
 use Rattle.law.specs.Choice.{both}
 use Rattle.cell.specs.declared.Cell.{Cell}
-use Rattle.image.specs.Image.{Image, sizeOf, fits, spans, eachPlace, onImage, inPage, onPage}
+use Rattle.image.specs.Image.{Image, sizeOf, spans, eachPlace, onImage, inPage, onPage}
 
 module _ (i : Image) where
-  pub lengths-fit : length (i .masks) ≡ length (i .values) → fits i ≡ true
-  unfolding fits
-  lengths-fit e = eq-eqb _ _ e
-
-  pub fits-lengths : fits i ≡ true → length (i .masks) ≡ length (i .values)
-  unfolding fits
-  fits-lengths t = eqb-true _ _ t
-
-  pub lengths-unfit : (length (i .masks) ≡ length (i .values) → ⊥) → fits i ≡ false
-  unfolding fits
-  lengths-unfit n = ne-eqb _ _ n
-
   -- an image of n bytes
   module _ (n : ℕ) where
     pub lengths-span : length (i .values) ≡ n → length (i .masks) ≡ n → spans n i ≡ true
@@ -36,20 +24,24 @@ module _ (i : Image) where
     unfolding spans
     spans-masks e = eqb-true _ _ (both (eqb (length (i .values)) n) (eqb (length (i .masks)) n) e .1)
 
-    pub spans-fits : spans n i ≡ true → fits i ≡ true
-    spans-fits e = lengths-fit (spans-masks e ∙ sym (spans-values e))
+  -- it fits: as many masks as values
+  pub lengths-fit : length (i .masks) ≡ length (i .values) → spans (sizeOf i) i ≡ true
+  lengths-fit e = lengths-span (sizeOf i) refl e
 
-  -- one that fits has its own length
-  pub fits-spans : fits i ≡ true → spans (sizeOf i) i ≡ true
-  fits-spans t = lengths-span (sizeOf i) refl (fits-lengths t)
+  pub lengths-unfit : (length (i .masks) ≡ length (i .values) → ⊥) → spans (sizeOf i) i ≡ false
+  unfolding spans
+  lengths-unfit n = simp (eq-eqb (sizeOf i) (sizeOf i) refl, ne-eqb _ _ n)
+
+  pub spans-fits : (n : ℕ) → spans n i ≡ true → spans (sizeOf i) i ≡ true
+  spans-fits n e = lengths-fit (spans-masks n e ∙ sym (spans-values n e))
 
   -- what the rules are where the image fits, and where not
   module _ (rule : ℕ → Cell → Cell) where
-    pub on-fit : fits i ≡ true → onImage rule i ≡ eachPlace rule i
+    pub on-fit : spans (sizeOf i) i ≡ true → onImage rule i ≡ eachPlace rule i
     unfolding onImage
     on-fit e = simp e
 
-    pub on-unfit : fits i ≡ false → onImage rule i ≡ i
+    pub on-unfit : spans (sizeOf i) i ≡ false → onImage rule i ≡ i
     unfolding onImage
     on-unfit e = simp e
 

@@ -14,9 +14,9 @@ use Rattle.cell.proofs.Disjoint.{disjoint-erased, disjoint-doubtful, disjoint-s
 use Rattle.cell.proofs.Neutral.{byte-erased, byte-doubtful, byte-stored, byte-programmed, byte-cut}
 use Rattle.page.specs.Geometry.{flashPage, eepromPage}
 use Rattle.page.specs.Rolling.{sentPlace}
-use Rattle.image.specs.Image.{Image, sizeOf, fits, spans, cellAt, onImage, inPage, onPage, Clean}
+use Rattle.image.specs.Image.{Image, sizeOf, spans, cellAt, onImage, inPage, onPage, Clean}
 use Rattle.image.specs.Cycles.{programPage, cutProgramPage, eraseAll, cutEraseAll, storePage, cutStorePage}
-use Rattle.image.proofs.Fitting.{fits-spans, on-unfit, page-there, page-none}
+use Rattle.image.proofs.Fitting.{on-unfit, page-there, page-none}
 use Rattle.image.proofs.Reading.{noCell, on-spans, on-at, on-past, page-spans}
 
 -- the six rules keep the lengths
@@ -49,10 +49,10 @@ module _ (i : Image) (n : ℕ) where
 module _ (P : Cell → Type 0) (none : P noCell) (i : Image) (had : (k : ℕ) → P (cellAt i k)) where
   pub on-keeps : (rule : ℕ → Cell → Cell) → ((k : ℕ) (c : Cell) → P c → P (rule k c)) → (k : ℕ) → P (cellAt (onImage rule i) k)
   on-keeps rule keeps k =
-      split (fits i)
+      split (spans (sizeOf i) i)
       (λ t.
-      ⊎-elim (λ l. subst P (sym (on-at rule i (sizeOf i) (fits-spans i t) k l)) (keeps k (cellAt i k) (had k)))
-      (λ l. subst P (sym (on-past rule i (sizeOf i) (fits-spans i t) k l)) none) (lt-or-le k (sizeOf i)))
+      ⊎-elim (λ l. subst P (sym (on-at rule i (sizeOf i) t k l)) (keeps k (cellAt i k) (had k)))
+      (λ l. subst P (sym (on-past rule i (sizeOf i) t k l)) none) (lt-or-le k (sizeOf i)))
       (λ t. subst (λ (w : Image). P (cellAt w k)) (sym (on-unfit i rule t)) (had k))
 
   pub page-keeps : (size number : ℕ) (rule : ℕ → Cell → Cell) → ((q : ℕ) (c : Cell) → P c → P (rule q c)) → (k : ℕ)

@@ -11,8 +11,8 @@ use lib.ListN.{length, getD, List·getD-eq-default}
 use Rattle.law.specs.Choice.{split, lt-or-le}
 use Rattle.law.specs.Places.{byPlace-length, byPlace-at}
 use Rattle.cell.specs.declared.Cell.{Cell}
-use Rattle.image.specs.Image.{Image, sizeOf, fits, spans, cellAt, valueBy, maskBy, eachPlace, onImage, inPage, onPage}
-use Rattle.image.proofs.Fitting.{fits-lengths, fits-spans, spans-values, spans-masks, spans-fits, on-fit, on-unfit, page-there, page-none}
+use Rattle.image.specs.Image.{Image, sizeOf, spans, cellAt, valueBy, maskBy, eachPlace, onImage, inPage, onPage}
+use Rattle.image.proofs.Fitting.{spans-values, spans-masks, spans-fits, on-fit, on-unfit, page-there, page-none}
 use Rattle.image.proofs.Pages.{in-page, off-page, page-of, place-of, not-before, not-behind}
 
 -- a byte past the end of an image
@@ -37,7 +37,7 @@ module _ (rule : ℕ → Cell → Cell) (i : Image) where
 
   -- an image keeps its length, whether it fits or not
   pub on-spans : (n : ℕ) → spans n (onImage rule i) ≡ spans n i
-  on-spans n = split (fits i) (λ t. ap (spans n) (on-fit i rule t) ∙ each-spans n) (λ t. ap (spans n) (on-unfit i rule t))
+  on-spans n = split (spans (sizeOf i) i) (λ t. ap (spans n) (on-fit i rule t) ∙ each-spans n) (λ t. ap (spans n) (on-unfit i rule t))
 
   pub on-at : (n : ℕ) → spans n i ≡ true → (k : ℕ) → k < n → cellAt (onImage rule i) k ≡ rule k (cellAt i k)
   on-at n t k h =
@@ -81,13 +81,13 @@ module _ (size number : ℕ) (rule : ℕ → Cell → Cell) (i : Image) where
       ⊎-elim
       (λ h.
       ap (λ (w : Image). cellAt w k) (page-there i size number rule h)
-      ∙ split (fits i) there (λ t. ap (λ (w : Image). cellAt w k) (on-unfit i (inPage size number rule) t)))
+      ∙ split (spans (sizeOf i) i) there (λ t. ap (λ (w : Image). cellAt w k) (on-unfit i (inPage size number rule) t)))
       (λ h. ap (λ (w : Image). cellAt w k) (page-none i size number rule h)) (lt-or-le number (sizeOf i / size)) where
-        there : fits i ≡ true → cellAt (onImage (inPage size number rule) i) k ≡ cellAt i k
+        there : spans (sizeOf i) i ≡ true → cellAt (onImage (inPage size number rule) i) k ≡ cellAt i k
         there t =
-            let m = fits-lengths i t in
-            ⊎-elim (λ l. on-at (inPage size number rule) i (sizeOf i) (fits-spans i t) k l ∙ e)
-            (λ l. on-past (inPage size number rule) i (sizeOf i) (fits-spans i t) k l ∙ sym (past-end i k (omega arith) (omega arith))) (lt-or-le k (sizeOf i))
+            let m = spans-masks i (sizeOf i) t in
+            ⊎-elim (λ l. on-at (inPage size number rule) i (sizeOf i) t k l ∙ e)
+            (λ l. on-past (inPage size number rule) i (sizeOf i) t k l ∙ sym (past-end i k (omega arith) (omega arith))) (lt-or-le k (sizeOf i))
 
   -- nothing outside the page changes: before it, or behind it
   pub page-off : (k : ℕ) → (k / size ≡ number → ⊥) → cellAt (onPage size number rule i) k ≡ cellAt i k

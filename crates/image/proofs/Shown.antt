@@ -2,7 +2,7 @@
 use mathlib.Core.Path.{_≡_, refl, sym, ap, _∙_}
 use mathlib.Core.Bool.{true, false}
 use mathlib.Core.List.{List, []}
-use Prim.Native.Nat.{ℕ, _+_, _*_, _≤_, _<_}
+use Prim.Native.Nat.{ℕ, _+_, _*_, _/_, _≤_, _<_}
 use native.Mathlib.Omega.{arith}
 use lib.Dec.{eqb, ltb}
 use borrow.Author.Tests.{eqb-true, ltb-true}
@@ -10,22 +10,22 @@ use lib.ListN.{length, take, drop, length-take, length-drop}
 use Rattle.law.specs.Choice.{split, both}
 use Rattle.record.specs.declared.Chip.{Chip}
 use Rattle.record.specs.declared.Chip.the-variants.{Flash, Eeprom}
-use Rattle.image.specs.Images.{perChip, everyChip, keptBytes, pageSize, pagesOf}
+use Rattle.image.specs.Images.{perChip, everyChip, keptBytes, pageSize}
 use Rattle.image.proofs.Each.{chip-by-chip}
 use Rattle.image.specs.View.{canShow, viewPlace, viewLength, pageShown}
 
 -- what is known where a page can be shown
 pub record CanShow (long : Chip → ℕ) (chip : Chip) (number : ℕ) : Type 0 where
   pub whole : (which : Chip) → long which ≡ keptBytes which
-  pub there : number < pagesOf chip
+  pub there : number < keptBytes chip / pageSize chip
 
 -- a page of the chip lies within the kept bytes
-pub page-within : (chip : Chip) (number : ℕ) → number < pagesOf chip → pageSize chip * number + pageSize chip ≤ keptBytes chip
+pub page-within : (chip : Chip) (number : ℕ) → number < keptBytes chip / pageSize chip → pageSize chip * number + pageSize chip ≤ keptBytes chip
 page-within Flash number h = omega arith
 page-within Eeprom number h = omega arith
 
 -- document 01 gives the last page's number
-pub last-is : (chip : Chip) → pagesOf chip ≡ perChip 127 511 chip + 1
+pub last-is : (chip : Chip) → keptBytes chip / pageSize chip ≡ perChip 127 511 chip + 1
 last-is Flash = refl
 last-is Eeprom = refl
 
@@ -42,7 +42,7 @@ kept-most Eeprom = omega arith
 module _ (long : Chip → ℕ) (chip : Chip) (number : ℕ) where
   pub can-show : canShow long chip number ≡ true → CanShow long chip number
   can-show e =
-      let a = both (everyChip (λ c. eqb (long c) (keptBytes c))) (ltb number (pagesOf chip)) e in
+      let a = both (everyChip (λ c. eqb (long c) (keptBytes c))) (ltb number (keptBytes chip / pageSize chip)) e in
       record { whole = λ c. eqb-true (long c) (keptBytes c) (chip-by-chip (λ w. eqb (long w) (keptBytes w)) (a .0) c); there = ltb-true _ _ (a .1) }
 
   -- the part lies within the image asked for

@@ -20,11 +20,7 @@ imageOf values masks = record { values = values; masks = masks }
 abbrev pub sizeOf : Image → ℕ
 sizeOf i = length (i .values)
 
--- a kept byte is a value and a mask: does an image have as many of the ones as of the others?
-unfoldable pub fits : Image → Bool
-fits i = eqb (length (i .masks)) (sizeOf i)
-
--- does it have n of both?
+-- does it have n values and n masks?
 unfoldable pub spans : ℕ → Image → Bool
 spans n i = pick (eqb (length (i .values)) n) (eqb (length (i .masks)) n) false
 
@@ -44,15 +40,15 @@ unfoldable pub eachPlace : (ℕ → Cell → Cell) → Image → Image
 eachPlace rule i =
     imageOf (byPlace (valueBy rule (i .masks)) 0 (i .values)) (byPlace (maskBy rule (i .values)) 0 (i .masks))
 
--- the same of an image that fits; another stays as it is
+-- the same of an image with as many masks as values; another stays as it is
 unfoldable pub onImage : (ℕ → Cell → Cell) → Image → Image
-onImage rule i = pick (fits i) (eachPlace rule i) i
+onImage rule i = pick (spans (sizeOf i) i) (eachPlace rule i) i
 
 -- place k is place k % size of page k / size: only those of page `number` change
 abbrev pub inPage : ℕ → ℕ → (ℕ → Cell → Cell) → ℕ → Cell → Cell
 inPage size number rule k c = pick (eqb (k / size) number) (rule (k % size) c) c
 
--- page `number` of an image that fits; a number past its last page changes nothing
+-- page `number` alone; a number past the last page changes nothing
 unfoldable pub onPage : ℕ → ℕ → (ℕ → Cell → Cell) → Image → Image
 onPage size number rule i = pick (ltb number (sizeOf i / size)) (onImage (inPage size number rule) i) i
 

@@ -1,5 +1,5 @@
 -- The chips' images as one: one field for each chip, and what is said of each.
-use Prim.Native.Nat.{ℕ, _/_}
+use Prim.Native.Nat.{ℕ}
 use mathlib.Core.Path.{_≡_}
 use mathlib.Core.Bool.{Bool, true, false}
 use mathlib.Core.List.{List}
@@ -30,21 +30,15 @@ everyChip test = pick (test Flash) (test Eeprom) false
 abbrev pub imageAt : Chip → Images → Image
 imageAt chip x = perChip (x .flash) (x .eeprom) chip
 
-abbrev pub every : (Chip → Image → Bool) → Images → Bool
-every test x = everyChip (λ chip. test chip (imageAt chip x))
-
 -- 'its bytes are kept for one watched sector of 32,768. The EEPROM's 32,768 bytes are all kept': what refusals 1 and 11 ask for
 abbrev pub keptBytes : Chip → ℕ
 keptBytes Flash = flashSector
 keptBytes Eeprom = eepromSize
 
--- how long a page is, and how many there are
+-- how long a page is
 abbrev pub pageSize : Chip → ℕ
 pageSize Flash = flashPage
 pageSize Eeprom = eepromPage
-
-abbrev pub pagesOf : Chip → ℕ
-pagesOf chip = keptBytes chip / pageSize chip
 
 -- every image has its chip's length
 abbrev pub Kept : Images → Type 0

@@ -22,6 +22,7 @@ use Rattle.flash.specs.declared.FlashCycle.the-variants as flash-cycle
 use Rattle.flash.specs.Code.{sectorLocked}
 use Rattle.eeprom.specs.declared.Eeprom.{Eeprom}
 use Rattle.eeprom.specs.declared.EepromCycle.{EepromCycle}
+use Rattle.eeprom.specs.declared.Sent.{Sent}
 use Rattle.eeprom.specs.declared.EepromCycle.the-variants as eeprom-cycle
 use Rattle.controls.specs.declared.Controls.{Controls}
 use Rattle.page.specs.Geometry.{sectorPages}
@@ -64,40 +65,29 @@ abbrev pub reached : FlashStatus → ℕ → Bool
 reached Lost watched = true
 reached (Known s) watched = not (sectorLocked s watched)
 
--- at `end`, of what is kept: outside the watched sector nothing changes; WRSR changes no byte
-abbrev pub flashWhole : ℕ → FlashCycle → List ℕ → FlashStatus → Image → Image
-flashWhole watched flash-cycle.None page status i = i
-flashWhole watched (flash-cycle.Program n) page status i = pick (eqb (sectorOfPage n) watched) (programPage (inSector n) page i) i
-flashWhole watched (flash-cycle.SectorErase sector) page status i = pick (eqb sector watched) (eraseAll i) i
-flashWhole watched flash-cycle.ChipErase page status i = pick (reached status watched) (eraseAll i) i
-flashWhole watched (flash-cycle.WriteStatus bits) page status i = i
+-- of what is kept, by what becomes of a page and of the whole sector: outside the watched one nothing changes; WRSR changes no byte
+abbrev pub flashBy : (ℕ → List ℕ → Image → Image) → (Image → Image) → ℕ → FlashCycle → List ℕ → FlashStatus → Image → Image
+flashBy programmed erased watched flash-cycle.None page status i = i
+flashBy programmed erased watched (flash-cycle.Program n) page status i = pick (eqb (sectorOfPage n) watched) (programmed (inSector n) page i) i
+flashBy programmed erased watched (flash-cycle.SectorErase sector) page status i = pick (eqb sector watched) (erased i) i
+flashBy programmed erased watched flash-cycle.ChipErase page status i = pick (reached status watched) (erased i) i
+flashBy programmed erased watched (flash-cycle.WriteStatus bits) page status i = i
 
--- at `off`
-abbrev pub flashCut : ℕ → FlashCycle → List ℕ → FlashStatus → Image → Image
-flashCut watched flash-cycle.None page status i = i
-flashCut watched (flash-cycle.Program n) page status i = pick (eqb (sectorOfPage n) watched) (cutProgramPage (inSector n) page i) i
-flashCut watched (flash-cycle.SectorErase sector) page status i = pick (eqb sector watched) (cutEraseAll i) i
-flashCut watched flash-cycle.ChipErase page status i = pick (reached status watched) (cutEraseAll i) i
-flashCut watched (flash-cycle.WriteStatus bits) page status i = i
-
+-- whole at `end`, cut at `off`
 unfoldable pub flashAfter : Stroke → ℕ → Flash → Image → Image
 flashAfter Nothing watched f i = i
-flashAfter Whole watched f i = flashWhole watched (f .cycle) (f .page) (f .status) i
-flashAfter Cut watched f i = flashCut watched (f .cycle) (f .page) (f .status) i
+flashAfter Whole watched f i = flashBy programPage eraseAll watched (f .cycle) (f .page) (f .status) i
+flashAfter Cut watched f i = flashBy cutProgramPage cutEraseAll watched (f .cycle) (f .page) (f .status) i
 
 -- the EEPROM's bytes are all kept
-abbrev pub eepromWhole : EepromCycle → List ℕ → Image → Image
-eepromWhole eeprom-cycle.None page i = i
-eepromWhole (eeprom-cycle.Write s) page i = storePage (s .page) (s .first) (s .count) page i
-
-abbrev pub eepromCut : EepromCycle → Image → Image
-eepromCut eeprom-cycle.None i = i
-eepromCut (eeprom-cycle.Write s) i = cutStorePage (s .page) (s .first) (s .count) i
+abbrev pub eepromBy : (Sent → Image → Image) → EepromCycle → Image → Image
+eepromBy stored eeprom-cycle.None i = i
+eepromBy stored (eeprom-cycle.Write s) i = stored s i
 
 unfoldable pub eepromAfter : Stroke → Eeprom → Image → Image
 eepromAfter Nothing e i = i
-eepromAfter Whole e i = eepromWhole (e .cycle) (e .page) i
-eepromAfter Cut e i = eepromCut (e .cycle) i
+eepromAfter Whole e i = eepromBy (λ s. storePage (s .page) (s .first) (s .count) (e .page)) (e .cycle) i
+eepromAfter Cut e i = eepromBy (λ s. cutStorePage (s .page) (s .first) (s .count)) (e .cycle) i
 
 -- what a record makes of the images, by its event and its reply, with these controls before it: each chip's image by its own stroke
 abbrev pub imagesAfter : Board → Controls → Event → Skeleton → Images → Images

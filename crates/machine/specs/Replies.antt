@@ -29,42 +29,36 @@ delivered i skeleton.Starts = reply.Starts
 delivered i skeleton.Ends = reply.Ends
 delivered i skeleton.NoCycle = reply.NoCycle
 
+abbrev pub agreesIf : Bool → Match
+agreesIf same = pick same Agrees Disagrees
+
 -- a read is compared on its sure bits only; where none is sure there is nothing to compare
 abbrev pub comparedByte : ℕ → ℕ → ℕ → Match
-comparedByte v m seen = pick (eqb m 255) Nothing (pick (agreesCell (record { value = v; mask = m }) seen) Agrees Disagrees)
+comparedByte v m seen = pick (eqb m 255) Nothing (agreesIf (agreesCell (record { value = v; mask = m }) seen))
 
--- a byte that a flash record has: SO
-abbrev pub comparedFlash : ℕ → Reply → Match
-comparedFlash so reply.NotPlayed = Nothing
-comparedFlash so reply.Silent = Nothing
-comparedFlash so (reply.Byte v m) = comparedByte v m so
-comparedFlash so reply.Ack = Nothing
-comparedFlash so reply.NoAck = Nothing
-comparedFlash so reply.Starts = Nothing
-comparedFlash so reply.Ends = Nothing
-comparedFlash so reply.NoCycle = Nothing
+-- by the byte that a record has, and what an acknowledge and its lack compare as
+abbrev pub comparedTo : ℕ → Match → Match → Reply → Match
+comparedTo seen ack lack reply.NotPlayed = Nothing
+comparedTo seen ack lack reply.Silent = Nothing
+comparedTo seen ack lack (reply.Byte v m) = comparedByte v m seen
+comparedTo seen ack lack reply.Ack = ack
+comparedTo seen ack lack reply.NoAck = lack
+comparedTo seen ack lack reply.Starts = Nothing
+comparedTo seen ack lack reply.Ends = Nothing
+comparedTo seen ack lack reply.NoCycle = Nothing
 
--- an EEPROM record has a byte and an acknowledge bit: 0 acknowledged, 1 not
-abbrev pub comparedEeprom : ℕ → Bool → Reply → Match
-comparedEeprom b bit reply.NotPlayed = Nothing
-comparedEeprom b bit reply.Silent = Nothing
-comparedEeprom b bit (reply.Byte v m) = comparedByte v m b
-comparedEeprom b bit reply.Ack = pick (not bit) Agrees Disagrees
-comparedEeprom b bit reply.NoAck = pick bit Agrees Disagrees
-comparedEeprom b bit reply.Starts = Nothing
-comparedEeprom b bit reply.Ends = Nothing
-comparedEeprom b bit reply.NoCycle = Nothing
-
+-- a flash record has SO
 abbrev pub flashSeen : FlashEvent → Reply → Match
 flashSeen flash-event.Select r = Nothing
-flashSeen (flash-event.Byte si so) r = comparedFlash so r
+flashSeen (flash-event.Byte si so) r = comparedTo so Nothing Nothing r
 flashSeen flash-event.Cut r = Nothing
 flashSeen flash-event.Deselect r = Nothing
 flashSeen flash-event.End r = Nothing
 
+-- an EEPROM record has a byte and an acknowledge bit: 0 acknowledged, 1 not
 abbrev pub eepromSeen : EepromEvent → Reply → Match
 eepromSeen eeprom-event.Start r = Nothing
-eepromSeen (eeprom-event.Byte b bit) r = comparedEeprom b bit r
+eepromSeen (eeprom-event.Byte b bit) r = comparedTo b (agreesIf (not bit)) (agreesIf bit) r
 eepromSeen eeprom-event.Cut r = Nothing
 eepromSeen eeprom-event.Stop r = Nothing
 eepromSeen eeprom-event.End r = Nothing

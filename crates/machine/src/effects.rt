@@ -2,7 +2,8 @@
 ghost use mathlib.Core.Path.{_≡_};
 ghost use Rattle.image.specs.Image.{imageOf};
 ghost use Rattle.image.specs.Images.{perChip};
-ghost use Rattle.machine.specs.Effects.{strokeOf, lineStroke, strokeFor, flashAfter, eepromAfter, reached, flashWhole, flashCut, eepromWhole, eepromCut};
+ghost use Rattle.machine.specs.declared.effects.Stroke.{Stroke};
+ghost use Rattle.machine.specs.Effects.{strokeOf, lineStroke, strokeFor, flashAfter, eepromAfter, reached};
 use eeprom::Eeprom;
 use eeprom::EepromCycle;
 use flash::Flash;
@@ -78,7 +79,7 @@ fn reaches(status: FlashStatus, watched: u8) -> bool
 
 // The flash's cycle ends whole.
 fn flash_whole(values: &mut [u8], masks: &mut [u8], watched: u8, chip: Flash)
-    ensures { λ _. ⌜ imageOf (now (values .exit)) (now (masks .exit)) ≡ flashWhole watched (chip .cycle) (chip .page) (chip .status) (imageOf (now (values .entry)) (now (masks .entry))) ⌝ }
+    ensures { λ _. ⌜ imageOf (now (values .exit)) (now (masks .exit)) ≡ flashAfter Stroke.Whole watched chip (imageOf (now (values .entry)) (now (masks .entry))) ⌝ }
 {
     let cycle = chip.cycle;
     let page = chip.page;
@@ -116,7 +117,7 @@ fn flash_whole(values: &mut [u8], masks: &mut [u8], watched: u8, chip: Flash)
 
 // The supply cuts the flash's cycle.
 fn flash_cut(values: &mut [u8], masks: &mut [u8], watched: u8, chip: Flash)
-    ensures { λ _. ⌜ imageOf (now (values .exit)) (now (masks .exit)) ≡ flashCut watched (chip .cycle) (chip .page) (chip .status) (imageOf (now (values .entry)) (now (masks .entry))) ⌝ }
+    ensures { λ _. ⌜ imageOf (now (values .exit)) (now (masks .exit)) ≡ flashAfter Stroke.Cut watched chip (imageOf (now (values .entry)) (now (masks .entry))) ⌝ }
 {
     let cycle = chip.cycle;
     let page = chip.page;
@@ -178,7 +179,7 @@ pub(crate) fn change_flash(
 
 // The EEPROM's cycle ends whole.
 fn eeprom_whole(values: &mut [u8], masks: &mut [u8], chip: Eeprom)
-    ensures { λ _. ⌜ imageOf (now (values .exit)) (now (masks .exit)) ≡ eepromWhole (chip .cycle) (chip .page) (imageOf (now (values .entry)) (now (masks .entry))) ⌝ }
+    ensures { λ _. ⌜ imageOf (now (values .exit)) (now (masks .exit)) ≡ eepromAfter Stroke.Whole chip (imageOf (now (values .entry)) (now (masks .entry))) ⌝ }
 {
     let cycle = chip.cycle;
     let page = chip.page;
@@ -202,7 +203,7 @@ fn eeprom_whole(values: &mut [u8], masks: &mut [u8], chip: Eeprom)
 
 // The supply cuts the EEPROM's cycle.
 fn eeprom_cut(values: &mut [u8], masks: &mut [u8], chip: Eeprom)
-    ensures { λ _. ⌜ imageOf (now (values .exit)) (now (masks .exit)) ≡ eepromCut (chip .cycle) (imageOf (now (values .entry)) (now (masks .entry))) ⌝ }
+    ensures { λ _. ⌜ imageOf (now (values .exit)) (now (masks .exit)) ≡ eepromAfter Stroke.Cut chip (imageOf (now (values .entry)) (now (masks .entry))) ⌝ }
 {
     let cycle = chip.cycle;
     match cycle {

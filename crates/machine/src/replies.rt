@@ -1,11 +1,9 @@
 // A reply as it is delivered from an image, and how it compares with what was recorded.
 ghost use mathlib.Core.Path.{_≡_};
 ghost use lib.ListN.{getD};
-ghost use Rattle.law.specs.Choice.{pick};
 ghost use Rattle.image.specs.Image.{imageOf};
 ghost use Rattle.image.specs.Images.{imagesOf};
-ghost use Rattle.record.specs.declared.Match.{Match};
-ghost use Rattle.machine.specs.Replies.{delivered, comparedByte, comparedFlash, comparedEeprom, flashSeen, eepromSeen, compared};
+ghost use Rattle.machine.specs.Replies.{delivered, agreesIf, comparedByte, comparedTo, flashSeen, eepromSeen, compared};
 ghost use Rattle.machine.specs.Machine.{imageFor};
 use cell::Cell;
 use record::EepromEvent;
@@ -59,6 +57,16 @@ pub(crate) fn deliver_for(
     }
 }
 
+// Agrees where the flag holds, else disagrees.
+fn agrees_if(flag: bool) -> Match
+    ensures { λ r. ⌜ r ≡ agreesIf flag ⌝ }
+{
+    match flag {
+        true => Match::Agrees,
+        false => Match::Disagrees,
+    }
+}
+
 fn compare_byte(value: u8, mask: u8, seen: u8) -> Match
     ensures { λ r. ⌜ r ≡ comparedByte value mask seen ⌝ }
 {
@@ -69,46 +77,18 @@ fn compare_byte(value: u8, mask: u8, seen: u8) -> Match
         value: value,
         mask: mask,
     };
-    if cell::agrees(c, seen) {
-        return Match::Agrees;
-    }
-    Match::Disagrees
+    agrees_if(cell::agrees(c, seen))
 }
 
-fn compare_flash(so: u8, reply: Reply) -> Match
-    ensures { λ r. ⌜ r ≡ comparedFlash so reply ⌝ }
+fn compare_to(seen: u8, ack: Match, lack: Match, reply: Reply) -> Match
+    ensures { λ r. ⌜ r ≡ comparedTo seen ack lack reply ⌝ }
 {
     match reply {
         Reply::NotPlayed => Match::Nothing,
         Reply::Silent => Match::Nothing,
-        Reply::Byte(value, mask) => compare_byte(value, mask, so),
-        Reply::Ack => Match::Nothing,
-        Reply::NoAck => Match::Nothing,
-        Reply::Starts => Match::Nothing,
-        Reply::Ends => Match::Nothing,
-        Reply::NoCycle => Match::Nothing,
-    }
-}
-
-// Agrees where the flag holds, else disagrees.
-fn agrees_if(flag: bool) -> Match
-    ensures { λ r. ⌜ r ≡ pick flag Match.Agrees Match.Disagrees ⌝ }
-{
-    match flag {
-        true => Match::Agrees,
-        false => Match::Disagrees,
-    }
-}
-
-fn compare_eeprom(b: u8, bit: bool, reply: Reply) -> Match
-    ensures { λ r. ⌜ r ≡ comparedEeprom b bit reply ⌝ }
-{
-    match reply {
-        Reply::NotPlayed => Match::Nothing,
-        Reply::Silent => Match::Nothing,
-        Reply::Byte(value, mask) => compare_byte(value, mask, b),
-        Reply::Ack => agrees_if(!bit),
-        Reply::NoAck => agrees_if(bit),
+        Reply::Byte(value, mask) => compare_byte(value, mask, seen),
+        Reply::Ack => ack,
+        Reply::NoAck => lack,
         Reply::Starts => Match::Nothing,
         Reply::Ends => Match::Nothing,
         Reply::NoCycle => Match::Nothing,
@@ -120,7 +100,7 @@ fn see_flash(e: FlashEvent, reply: Reply) -> Match
 {
     match e {
         FlashEvent::Select => Match::Nothing,
-        FlashEvent::Byte(_, so) => compare_flash(so, reply),
+        FlashEvent::Byte(_, so) => compare_to(so, Match::Nothing, Match::Nothing, reply),
         FlashEvent::Cut => Match::Nothing,
         FlashEvent::Deselect => Match::Nothing,
         FlashEvent::End => Match::Nothing,
@@ -132,7 +112,7 @@ fn see_eeprom(e: EepromEvent, reply: Reply) -> Match
 {
     match e {
         EepromEvent::Start => Match::Nothing,
-        EepromEvent::Byte(b, bit) => compare_eeprom(b, bit, reply),
+        EepromEvent::Byte(b, bit) => compare_to(b, agrees_if(!bit), agrees_if(bit), reply),
         EepromEvent::Cut => Match::Nothing,
         EepromEvent::Stop => Match::Nothing,
         EepromEvent::End => Match::Nothing,

@@ -4,7 +4,7 @@ use mathlib.Core.Bool.{false}
 use mathlib.Core.List.{List, []}
 use mathlib.Core.Logic.{_↔_}
 use Prim.Native.Nat.{ℕ}
-use Rattle.meaning.specs.Meaning.{Rules, Outcome, Reason, lost, Answer, settled, stopped, NeverBack, Allowed, outcome, before, at, Agreed, FirstReason, Passes, Earliest, Means}
+use Rattle.meaning.specs.Meaning.{Rules, Outcome, Reason, Answer, settled, stopped, NeverBack, Allowed, outcome, before, at, Agreed, FirstReason, Passes, Earliest, Means}
 use Rattle.meaning.specs.Steps.{first-holds}
 use Rattle.meaning.specs.OneAnswer.{first-one, stamp-one, means-one, kept-means}
 use Rattle.meaning.specs.Stamped.{stamped}

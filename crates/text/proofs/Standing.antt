@@ -19,7 +19,7 @@ use Rattle.text.specs.declared.buses.Moves.{Moves}
 use Rattle.text.specs.declared.checking.Checked.{Checked}
 use Rattle.text.specs.Buses.{allClosed, moved, onwards, after, busesAfter}
 use Rattle.text.specs.Stamps.{lastStamp}
-use Rattle.text.specs.Texts.{spelledAll, spelledTrace, Readable, Front, Wrong, Refused, Checks}
+use Rattle.text.specs.Texts.{spelledAll, spelledTrace, Front, Wrong, Checks}
 use Rattle.text.specs.Texts.Wrong.{noRecord, falls, cannot}
 use Rattle.text.specs.Texts.Refused.{noBoard, badLine}
 use Rattle.text.proofs.Goods.{Good, acceptable-of, good-none, good-snoc, after-snoc, last-snoc, all-snoc}

@@ -13,7 +13,7 @@ use Rattle.field.specs.declared.Cursor.{Cursor}
 use Rattle.image.specs.Images.{Images}
 use Rattle.line.specs.Boards.{spelledBoard}
 use Rattle.text.specs.declared.checking.Checked.{Checked}
-use Rattle.text.specs.Texts.{textLimit, Readable, Refused, Checks}
+use Rattle.text.specs.Texts.{textLimit, Checks}
 use Rattle.record.specs.Lengths.{repliesLength, resultLength}
 use Rattle.buffers.specs.Buffers.{Buffers, fit, resultBytes, resultAfter}
 use Rattle.buffers.proofs.Result.{result-written}

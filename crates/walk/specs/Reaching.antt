@@ -8,7 +8,7 @@ use native.Mathlib.Omega.{arith}
 use lib.ListN.{length, take, drop, replicate, length-append, length-replicate}
 use Rattle.law.specs.Choice.{true-not-false}
 use Rattle.law.specs.Lists.{All, all-map, all-append, all-behind, front-in}
-use Rattle.meaning.specs.Meaning.{most, Reason, crowded, differ, lost, of, NeverBack, Crowded, after, outcome, before, Means}
+use Rattle.meaning.specs.Meaning.{most, Reason, crowded, differ, lost, of, NeverBack, after, outcome, before, Means}
 use Rattle.meaning.specs.Meaning as meaning
 use Rattle.meaning.specs.Sums.{sum, sum-most, length-apart, mostInAll}
 use Rattle.meaning.specs.Steps.{outcome-append, before-here, means-crowded, means-differ, means-lost}

@@ -5,11 +5,6 @@ use Rattle.controls.proofs.Equal.{all-same}
 use borrow.Author.Needs.{needs}
 use Rattle.controls.proofs.same.Statement.{statement}
 use Rattle.controls.proofs.same.Tie as tie
-use Rattle.controls.proofs.same.Reads as reads
-use Rattle.controls.proofs.same.Lts as lts
-use Rattle.controls.proofs.same_lines.Reads as same-lines-reads
-use Rattle.eeprom.proofs.same.Reads as same-reads
-use Rattle.flash.proofs.same.Reads as same-reads′
 
 same-requires : tie.Need-same-requires
 same-requires c κs = search needs

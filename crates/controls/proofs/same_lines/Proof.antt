@@ -4,8 +4,6 @@ use Rattle.law.specs.Deciding.{Decides, decides-as, beq-decides, refuses, passe
 use Rattle.record.specs.declared.Lines.{Lines}
 use Rattle.controls.proofs.same_lines.Statement.{statement}
 use Rattle.controls.proofs.same_lines.Tie as tie
-use Rattle.controls.proofs.same_lines.Reads as reads
-use Rattle.controls.proofs.same_lines.Lts as lts
 
 -- the last test decides where the supplies are the same
 one-lock : (a b : Lines) → a .supply ≡ b .supply → Decides (Bool·beq (a .lock) (b .lock)) (a ≡ b)

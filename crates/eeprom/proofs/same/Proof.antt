@@ -5,13 +5,6 @@ use Rattle.eeprom.proofs.ByNumbers.{frame-right, cycle-right, counter-r
 use borrow.Author.Needs.{needs}
 use Rattle.eeprom.proofs.same.Statement.{statement}
 use Rattle.eeprom.proofs.same.Tie as tie
-use Rattle.eeprom.proofs.same.Reads as reads
-use Rattle.eeprom.proofs.same.Lts as lts
-use Rattle.check.proofs.same.Reads as same-reads
-use Rattle.eeprom.proofs.numbers.counter_numbers.Reads as counter-numbers-reads
-use Rattle.eeprom.proofs.numbers.cycle_numbers.Reads as cycle-numbers-reads
-use Rattle.eeprom.proofs.numbers.frame_numbers.Reads as frame-numbers-reads
-use Rattle.law.proofs.same_numbers.Reads as same-numbers-reads
 
 frame-numbers-requires : tie.Need-frame-numbers-requires
 frame-numbers-requires c κs = search needs

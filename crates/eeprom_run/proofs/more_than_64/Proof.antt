@@ -2,17 +2,6 @@ use Prim.Native.Nat.{_-_, _≤_}
 use borrow.Author.Needs.{needs}
 use Rattle.eeprom_run.proofs.more_than_64.Statement.{statement}
 use Rattle.eeprom_run.proofs.more_than_64.Tie as tie
-use Rattle.eeprom_run.proofs.more_than_64.Reads as reads
-use Rattle.eeprom_run.proofs.more_than_64.Lts as lts
-use Rattle.eeprom_run.proofs.begin.Reads as begin-reads
-use Rattle.eeprom_run.proofs.bus.Reads as bus-reads
-use Rattle.eeprom_run.proofs.done.Reads as done-reads
-use Rattle.eeprom_run.proofs.end.Reads as end-reads
-use Rattle.eeprom_run.proofs.last.Reads as last-reads
-use Rattle.eeprom_run.proofs.send.Reads as send-reads
-use Rattle.eeprom_run.proofs.show_cycle.Reads as show-cycle-reads
-use Rattle.eeprom_run.proofs.sta.Reads as sta-reads
-use Rattle.eeprom_run.proofs.sto.Reads as sto-reads
 
 abbrev Inv-loop : tie.InvT-loop
 Inv-loop now₀ i₀ t7 t8 t9 now i = i ≤ 70

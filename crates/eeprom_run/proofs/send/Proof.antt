@@ -3,9 +3,6 @@ use lib.ListN.{length}
 use borrow.Author.Needs.{needs}
 use Rattle.eeprom_run.proofs.send.Statement.{statement}
 use Rattle.eeprom_run.proofs.send.Tie as tie
-use Rattle.eeprom_run.proofs.send.Reads as reads
-use Rattle.eeprom_run.proofs.send.Lts as lts
-use Rattle.eeprom_run.proofs.bus.Reads as bus-reads
 
 abbrev Inv-loop : tie.InvT-loop
 Inv-loop bytes now₀ i₀ now i = i ≤ length bytes

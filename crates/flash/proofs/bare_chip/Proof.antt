@@ -1,9 +1,6 @@
 use borrow.Author.Needs.{needs}
 use Rattle.flash.proofs.bare_chip.Statement.{statement}
 use Rattle.flash.proofs.bare_chip.Tie as tie
-use Rattle.flash.proofs.bare_chip.Reads as reads
-use Rattle.flash.proofs.bare_chip.Lts as lts
-use Rattle.flash.proofs.cycle.page_in.Reads as page-in-reads
 
 page-in-requires : tie.Need-page-in-requires
 page-in-requires c κs = search needs

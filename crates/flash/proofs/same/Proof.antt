@@ -5,12 +5,6 @@ use Rattle.flash.specs.declared.Flash.{Flash}
 use borrow.Author.Needs.{needs}
 use Rattle.flash.proofs.same.Statement.{statement}
 use Rattle.flash.proofs.same.Tie as tie
-use Rattle.flash.proofs.same.Reads as reads
-use Rattle.flash.proofs.same.Lts as lts
-use Rattle.flash.proofs.equal.same_cycle.Reads as same-cycle-reads
-use Rattle.flash.proofs.equal.same_frame.Reads as same-frame-reads
-use Rattle.flash.proofs.equal.same_page.Reads as same-page-reads
-use Rattle.flash.proofs.equal.same_status.Reads as same-status-reads
 
 same-frame-requires : tie.Need-same-frame-requires
 same-frame-requires c κs = search needs

@@ -1,8 +1,6 @@
 use borrow.Author.Tests.{ne-eqb}
 use Rattle.flash.proofs.sector_locked.Statement.{statement}
 use Rattle.flash.proofs.sector_locked.Tie as tie
-use Rattle.flash.proofs.sector_locked.Reads as reads
-use Rattle.flash.proofs.sector_locked.Lts as lts
 
 returns : tie.Need-returns
 returns c = simp (c .match .keys1)

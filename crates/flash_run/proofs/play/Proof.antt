@@ -3,10 +3,6 @@ use lib.ListN.{length}
 use borrow.Author.Needs.{needs}
 use Rattle.flash_run.proofs.play.Statement.{statement}
 use Rattle.flash_run.proofs.play.Tie as tie
-use Rattle.flash_run.proofs.play.Reads as reads
-use Rattle.flash_run.proofs.play.Lts as lts
-use Rattle.flash_run.proofs.Bench.played.Reads as played-reads
-use Rattle.flash_run.proofs.started.Reads as started-reads
 
 abbrev Inv-loop : tie.InvT-loop
 Inv-loop script bench₀ i₀ bench i = i ≤ length script

@@ -1,12 +1,9 @@
-use Prim.Native.Nat.{ℕ}
 use mathlib.Core.Path.{_≡_, ap}
 use lib.Dec.{eqb}
 use Rattle.law.specs.Deciding.{Decides, decides-false, decides-as, eqb-decides}
 use Rattle.law.specs.declared.Numbers.{Numbers}
 use Rattle.law.proofs.same_numbers.Statement.{statement}
 use Rattle.law.proofs.same_numbers.Tie as tie
-use Rattle.law.proofs.same_numbers.Reads as reads
-use Rattle.law.proofs.same_numbers.Lts as lts
 
 -- the last test decides where the four before it found equal numbers
 last : (x y : Numbers) → x .kind ≡ y .kind → x .a ≡ y .a → x .b ≡ y .b → x .c ≡ y .c → Decides (eqb (x .d) (y .d)) (x ≡ y)

@@ -1,8 +1,6 @@
 use borrow.Author.Needs.{needs}
 use Rattle.record.proofs.lines_after.Statement.{statement}
 use Rattle.record.proofs.lines_after.Tie as tie
-use Rattle.record.proofs.lines_after.Reads as reads
-use Rattle.record.proofs.lines_after.Lts as lts
 
 enum-told : tie.Need-enum-told
 enum-told c = search needs

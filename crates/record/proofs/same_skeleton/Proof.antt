@@ -2,10 +2,6 @@ use Rattle.record.specs.Skeletons.{skeleton-right}
 use borrow.Author.Needs.{needs}
 use Rattle.record.proofs.same_skeleton.Statement.{statement}
 use Rattle.record.proofs.same_skeleton.Tie as tie
-use Rattle.record.proofs.same_skeleton.Reads as reads
-use Rattle.record.proofs.same_skeleton.Lts as lts
-use Rattle.law.proofs.same_numbers.Reads as same-numbers-reads
-use Rattle.record.proofs.skeleton_numbers.Reads as skeleton-numbers-reads
 
 skeleton-numbers-requires : tie.Need-skeleton-numbers-requires
 skeleton-numbers-requires c κs = search needs

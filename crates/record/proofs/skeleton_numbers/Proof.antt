@@ -1,9 +1,6 @@
 use borrow.Author.Needs.{needs}
 use Rattle.record.proofs.skeleton_numbers.Statement.{statement}
 use Rattle.record.proofs.skeleton_numbers.Tie as tie
-use Rattle.record.proofs.skeleton_numbers.Reads as reads
-use Rattle.record.proofs.skeleton_numbers.Lts as lts
-use Rattle.law.proofs.numbers_of.Reads as numbers-of-reads
 
 enum-told : tie.Need-enum-told
 enum-told c = search needs

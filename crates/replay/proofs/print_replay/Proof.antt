@@ -3,12 +3,6 @@ use native.Mathlib.Omega.{arith}
 use borrow.Author.Needs.{needs}
 use Rattle.replay.proofs.print_replay.Statement.{statement}
 use Rattle.replay.proofs.print_replay.Tie as tie
-use Rattle.replay.proofs.print_replay.Reads as reads
-use Rattle.replay.proofs.print_replay.Lts as lts
-use Rattle.desk.proofs.hazelcrook_replay.Reads as hazelcrook-replay-reads
-use Rattle.io.proofs.write_all.Reads as write-all-reads
-use Rattle.listing.proofs.list.Reads as list-reads
-use Rattle.os.proofs.fail.Reads as fail-reads
 
 slice-aggregate-hazelcrook-replay : tie.Need-slice-aggregate-hazelcrook-replay
 slice-aggregate-hazelcrook-replay c = search needs

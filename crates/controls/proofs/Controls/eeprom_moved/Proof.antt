@@ -1,9 +1,6 @@
 use borrow.Author.Needs.{needs}
 use Rattle.controls.proofs.Controls.eeprom_moved.Statement.{statement}
 use Rattle.controls.proofs.Controls.eeprom_moved.Tie as tie
-use Rattle.controls.proofs.Controls.eeprom_moved.Reads as reads
-use Rattle.controls.proofs.Controls.eeprom_moved.Lts as lts
-use Rattle.eeprom.proofs.Eeprom.step.Reads as step-reads
 
 step-requires : tie.Need-step-requires
 step-requires c κs = search needs

@@ -1,9 +1,6 @@
 use borrow.Author.Needs.{needs}
 use Rattle.controls.proofs.Controls.flash_moved.Statement.{statement}
 use Rattle.controls.proofs.Controls.flash_moved.Tie as tie
-use Rattle.controls.proofs.Controls.flash_moved.Reads as reads
-use Rattle.controls.proofs.Controls.flash_moved.Lts as lts
-use Rattle.flash.proofs.Flash.step.Reads as step-reads
 
 step-requires : tie.Need-step-requires
 step-requires c κs = search needs

@@ -1,11 +1,6 @@
 use borrow.Author.Needs.{needs}
 use Rattle.controls.proofs.Controls.line_moved.Statement.{statement}
 use Rattle.controls.proofs.Controls.line_moved.Tie as tie
-use Rattle.controls.proofs.Controls.line_moved.Reads as reads
-use Rattle.controls.proofs.Controls.line_moved.Lts as lts
-use Rattle.eeprom.proofs.Eeprom.line.Reads as Eeprom-line-reads
-use Rattle.flash.proofs.Flash.line.Reads as Flash-line-reads
-use Rattle.record.proofs.lines_after.Reads as lines-after-reads
 
 line-requires : tie.Need-line-requires
 line-requires c κs = search needs

@@ -2,11 +2,6 @@ use Rattle.controls.specs.Play.{movedOf}
 use borrow.Author.Needs.{needs}
 use Rattle.controls.proofs.Controls.play.Statement.{statement}
 use Rattle.controls.proofs.Controls.play.Tie as tie
-use Rattle.controls.proofs.Controls.play.Reads as reads
-use Rattle.controls.proofs.Controls.play.Lts as lts
-use Rattle.controls.proofs.Controls.eeprom_moved.Reads as eeprom-moved-reads
-use Rattle.controls.proofs.Controls.flash_moved.Reads as flash-moved-reads
-use Rattle.controls.proofs.Controls.line_moved.Reads as line-moved-reads
 
 enum-known-event : tie.Need-enum-known-event
 enum-known-event c = search needs

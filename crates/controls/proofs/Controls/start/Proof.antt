@@ -1,11 +1,6 @@
 use borrow.Author.Needs.{needs}
 use Rattle.controls.proofs.Controls.start.Statement.{statement}
 use Rattle.controls.proofs.Controls.start.Tie as tie
-use Rattle.controls.proofs.Controls.start.Reads as reads
-use Rattle.controls.proofs.Controls.start.Lts as lts
-use Rattle.eeprom.proofs.Eeprom.start.Reads as Eeprom-start-reads
-use Rattle.flash.proofs.Flash.start.Reads as Flash-start-reads
-use Rattle.record.proofs.lines_at_start.Reads as lines-at-start-reads
 
 start-requires : tie.Need-start-requires
 start-requires c κs = search needs

@@ -2,13 +2,6 @@ use Rattle.law.specs.Choice.{via}
 use borrow.Author.Needs.{needs}
 use Rattle.eeprom.proofs.Eeprom.address_byte.Statement.{statement}
 use Rattle.eeprom.proofs.Eeprom.address_byte.Tie as tie
-use Rattle.eeprom.proofs.Eeprom.address_byte.Reads as reads
-use Rattle.eeprom.proofs.Eeprom.address_byte.Lts as lts
-use Rattle.eeprom.proofs.Eeprom.answer.Reads as answer-reads
-use Rattle.eeprom.proofs.Eeprom.in_frame.Reads as in-frame-reads
-use Rattle.eeprom.proofs.Eeprom.silent_in.Reads as silent-in-reads
-use Rattle.eeprom.proofs.parts.opened_by.Reads as opened-by-reads
-use Rattle.eeprom.proofs.parts.own_address.Reads as own-address-reads
 
 own-address-requires : tie.Need-own-address-requires
 own-address-requires c κs = search needs

@@ -1,14 +1,6 @@
 use borrow.Author.Needs.{needs}
 use Rattle.eeprom.proofs.Eeprom.byte.Statement.{statement}
 use Rattle.eeprom.proofs.Eeprom.byte.Tie as tie
-use Rattle.eeprom.proofs.Eeprom.byte.Reads as reads
-use Rattle.eeprom.proofs.Eeprom.byte.Lts as lts
-use Rattle.eeprom.proofs.Eeprom.address_byte.Reads as address-byte-reads
-use Rattle.eeprom.proofs.Eeprom.answer.Reads as answer-reads
-use Rattle.eeprom.proofs.Eeprom.data_byte.Reads as data-byte-reads
-use Rattle.eeprom.proofs.Eeprom.in_frame.Reads as in-frame-reads
-use Rattle.eeprom.proofs.Eeprom.low_byte.Reads as low-byte-reads
-use Rattle.eeprom.proofs.Eeprom.read_byte.Reads as read-byte-reads
 
 enum-told : tie.Need-enum-told
 enum-told c = search needs

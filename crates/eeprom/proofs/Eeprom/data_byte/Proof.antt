@@ -1,13 +1,6 @@
 use borrow.Author.Needs.{needs}
 use Rattle.eeprom.proofs.Eeprom.data_byte.Statement.{statement}
 use Rattle.eeprom.proofs.Eeprom.data_byte.Tie as tie
-use Rattle.eeprom.proofs.Eeprom.data_byte.Reads as reads
-use Rattle.eeprom.proofs.Eeprom.data_byte.Lts as lts
-use Rattle.eeprom.proofs.Eeprom.answer.Reads as answer-reads
-use Rattle.eeprom.proofs.parts.place_of.Reads as place-of-reads
-use Rattle.eeprom.proofs.write.next_in_page.Reads as next-in-page-reads
-use Rattle.eeprom.proofs.write.one_more.Reads as one-more-reads
-use Rattle.eeprom.proofs.write.put_byte.Reads as put-byte-reads
 
 place-of-requires : tie.Need-place-of-requires
 place-of-requires c κs = search needs

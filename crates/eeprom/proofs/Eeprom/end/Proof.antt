@@ -2,10 +2,6 @@ use Rattle.law.specs.Choice.{via}
 use borrow.Author.Needs.{needs}
 use Rattle.eeprom.proofs.Eeprom.end.Statement.{statement}
 use Rattle.eeprom.proofs.Eeprom.end.Tie as tie
-use Rattle.eeprom.proofs.Eeprom.end.Reads as reads
-use Rattle.eeprom.proofs.Eeprom.end.Lts as lts
-use Rattle.eeprom.proofs.Eeprom.answer.Reads as answer-reads
-use Rattle.eeprom.proofs.parts.running.Reads as running-reads
 
 running-requires : tie.Need-running-requires
 running-requires c κs = search needs

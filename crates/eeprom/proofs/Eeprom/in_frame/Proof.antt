@@ -1,9 +1,6 @@
 use borrow.Author.Needs.{needs}
 use Rattle.eeprom.proofs.Eeprom.in_frame.Statement.{statement}
 use Rattle.eeprom.proofs.Eeprom.in_frame.Tie as tie
-use Rattle.eeprom.proofs.Eeprom.in_frame.Reads as reads
-use Rattle.eeprom.proofs.Eeprom.in_frame.Lts as lts
-use Rattle.eeprom.proofs.parts.page_in.Reads as page-in-reads
 
 page-in-requires : tie.Need-page-in-requires
 page-in-requires c κs = search needs

@@ -2,10 +2,6 @@ use borrow.Author.Needs.{needs}
 use Rattle.law.specs.Choice.{via}
 use Rattle.eeprom.proofs.Eeprom.line.Statement.{statement}
 use Rattle.eeprom.proofs.Eeprom.line.Tie as tie
-use Rattle.eeprom.proofs.Eeprom.line.Reads as reads
-use Rattle.eeprom.proofs.Eeprom.line.Lts as lts
-use Rattle.eeprom.proofs.Eeprom.supply_off.Reads as supply-off-reads
-use Rattle.record.proofs.goes_off.Reads as goes-off-reads
 
 goes-off-requires : tie.Need-goes-off-requires
 goes-off-requires c κs = search needs

@@ -1,13 +1,6 @@
 use borrow.Author.Needs.{needs}
 use Rattle.eeprom.proofs.Eeprom.powered.Statement.{statement}
 use Rattle.eeprom.proofs.Eeprom.powered.Tie as tie
-use Rattle.eeprom.proofs.Eeprom.powered.Reads as reads
-use Rattle.eeprom.proofs.Eeprom.powered.Lts as lts
-use Rattle.eeprom.proofs.Eeprom.byte.Reads as byte-reads
-use Rattle.eeprom.proofs.Eeprom.end.Reads as end-reads
-use Rattle.eeprom.proofs.Eeprom.silent_in.Reads as silent-in-reads
-use Rattle.eeprom.proofs.Eeprom.started.Reads as started-reads
-use Rattle.eeprom.proofs.Eeprom.stop.Reads as stop-reads
 
 enum-told : tie.Need-enum-told
 enum-told c = search needs

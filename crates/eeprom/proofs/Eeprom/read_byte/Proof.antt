@@ -1,12 +1,6 @@
 use borrow.Author.Needs.{needs}
 use Rattle.eeprom.proofs.Eeprom.read_byte.Statement.{statement}
 use Rattle.eeprom.proofs.Eeprom.read_byte.Tie as tie
-use Rattle.eeprom.proofs.Eeprom.read_byte.Reads as reads
-use Rattle.eeprom.proofs.Eeprom.read_byte.Lts as lts
-use Rattle.eeprom.proofs.Eeprom.answer.Reads as answer-reads
-use Rattle.eeprom.proofs.parts.after_read.Reads as after-read-reads
-use Rattle.eeprom.proofs.parts.fetch.Reads as fetch-reads
-use Rattle.eeprom.proofs.parts.moved_on.Reads as moved-on-reads
 
 after-read-requires : tie.Need-after-read-requires
 after-read-requires c κs = search needs

@@ -1,10 +1,6 @@
 use borrow.Author.Needs.{needs}
 use Rattle.eeprom.proofs.Eeprom.silent_in.Statement.{statement}
 use Rattle.eeprom.proofs.Eeprom.silent_in.Tie as tie
-use Rattle.eeprom.proofs.Eeprom.silent_in.Reads as reads
-use Rattle.eeprom.proofs.Eeprom.silent_in.Lts as lts
-use Rattle.eeprom.proofs.Eeprom.answer.Reads as answer-reads
-use Rattle.eeprom.proofs.Eeprom.in_frame.Reads as in-frame-reads
 
 in-frame-requires : tie.Need-in-frame-requires
 in-frame-requires c κs = search needs

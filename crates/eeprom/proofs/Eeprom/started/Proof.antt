@@ -1,10 +1,6 @@
 use borrow.Author.Needs.{needs}
 use Rattle.eeprom.proofs.Eeprom.started.Statement.{statement}
 use Rattle.eeprom.proofs.Eeprom.started.Tie as tie
-use Rattle.eeprom.proofs.Eeprom.started.Reads as reads
-use Rattle.eeprom.proofs.Eeprom.started.Lts as lts
-use Rattle.eeprom.proofs.Eeprom.silent_in.Reads as silent-in-reads
-use Rattle.eeprom.proofs.parts.running.Reads as running-reads
 
 running-requires : tie.Need-running-requires
 running-requires c κs = search needs

@@ -1,10 +1,6 @@
 use borrow.Author.Needs.{needs}
 use Rattle.eeprom.proofs.Eeprom.step.Statement.{statement}
 use Rattle.eeprom.proofs.Eeprom.step.Tie as tie
-use Rattle.eeprom.proofs.Eeprom.step.Reads as reads
-use Rattle.eeprom.proofs.Eeprom.step.Lts as lts
-use Rattle.eeprom.proofs.Eeprom.powered.Reads as powered-reads
-use Rattle.eeprom.proofs.Eeprom.unpowered.Reads as unpowered-reads
 
 powered-requires : tie.Need-powered-requires
 powered-requires c κs = search needs

@@ -1,10 +1,6 @@
 use borrow.Author.Needs.{needs}
 use Rattle.eeprom.proofs.Eeprom.stop.Statement.{statement}
 use Rattle.eeprom.proofs.Eeprom.stop.Tie as tie
-use Rattle.eeprom.proofs.Eeprom.stop.Reads as reads
-use Rattle.eeprom.proofs.Eeprom.stop.Lts as lts
-use Rattle.eeprom.proofs.Eeprom.silent_in.Reads as silent-in-reads
-use Rattle.eeprom.proofs.Eeprom.write_ends.Reads as write-ends-reads
 
 enum-told : tie.Need-enum-told
 enum-told c = search needs

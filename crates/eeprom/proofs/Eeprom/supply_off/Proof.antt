@@ -1,9 +1,6 @@
 use borrow.Author.Needs.{needs}
 use Rattle.eeprom.proofs.Eeprom.supply_off.Statement.{statement}
 use Rattle.eeprom.proofs.Eeprom.supply_off.Tie as tie
-use Rattle.eeprom.proofs.Eeprom.supply_off.Reads as reads
-use Rattle.eeprom.proofs.Eeprom.supply_off.Lts as lts
-use Rattle.eeprom.proofs.parts.voided.Reads as voided-reads
 
 voided-requires : tie.Need-voided-requires
 voided-requires c κs = search needs

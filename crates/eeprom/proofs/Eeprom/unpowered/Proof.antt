@@ -1,10 +1,6 @@
 use borrow.Author.Needs.{needs}
 use Rattle.eeprom.proofs.Eeprom.unpowered.Statement.{statement}
 use Rattle.eeprom.proofs.Eeprom.unpowered.Tie as tie
-use Rattle.eeprom.proofs.Eeprom.unpowered.Reads as reads
-use Rattle.eeprom.proofs.Eeprom.unpowered.Lts as lts
-use Rattle.eeprom.proofs.Eeprom.answer.Reads as answer-reads
-use Rattle.eeprom.proofs.Eeprom.silent_in.Reads as silent-in-reads
 
 enum-told : tie.Need-enum-told
 enum-told c = search needs

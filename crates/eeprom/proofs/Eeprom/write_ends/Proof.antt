@@ -2,12 +2,6 @@ use borrow.Author.Tests.{eq-eqb, ne-eqb}
 use borrow.Author.Needs.{needs}
 use Rattle.eeprom.proofs.Eeprom.write_ends.Statement.{statement}
 use Rattle.eeprom.proofs.Eeprom.write_ends.Tie as tie
-use Rattle.eeprom.proofs.Eeprom.write_ends.Reads as reads
-use Rattle.eeprom.proofs.Eeprom.write_ends.Lts as lts
-use Rattle.eeprom.proofs.Eeprom.answer.Reads as answer-reads
-use Rattle.eeprom.proofs.Eeprom.silent_in.Reads as silent-in-reads
-use Rattle.eeprom.proofs.parts.place_of.Reads as place-of-reads
-use Rattle.eeprom.proofs.write.sent_by.Reads as sent-by-reads
 
 silent-in-requires : tie.Need-silent-in-requires
 silent-in-requires c κs = search needs

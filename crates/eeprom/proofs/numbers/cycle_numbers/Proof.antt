@@ -1,9 +1,6 @@
 use borrow.Author.Needs.{needs}
 use Rattle.eeprom.proofs.numbers.cycle_numbers.Statement.{statement}
 use Rattle.eeprom.proofs.numbers.cycle_numbers.Tie as tie
-use Rattle.eeprom.proofs.numbers.cycle_numbers.Reads as reads
-use Rattle.eeprom.proofs.numbers.cycle_numbers.Lts as lts
-use Rattle.law.proofs.numbers_of.Reads as numbers-of-reads
 
 enum-told : tie.Need-enum-told
 enum-told c = search needs

@@ -1,8 +1,6 @@
 use borrow.Author.Needs.{needs}
 use Rattle.eeprom.proofs.parts.fetch.Statement.{statement}
 use Rattle.eeprom.proofs.parts.fetch.Tie as tie
-use Rattle.eeprom.proofs.parts.fetch.Reads as reads
-use Rattle.eeprom.proofs.parts.fetch.Lts as lts
 
 enum-told : tie.Need-enum-told
 enum-told c = search needs

@@ -1,9 +1,6 @@
 use borrow.Author.Needs.{needs}
 use Rattle.eeprom.proofs.parts.moved_on.Statement.{statement}
 use Rattle.eeprom.proofs.parts.moved_on.Tie as tie
-use Rattle.eeprom.proofs.parts.moved_on.Reads as reads
-use Rattle.eeprom.proofs.parts.moved_on.Lts as lts
-use Rattle.page.proofs.rolled.Reads as rolled-reads
 
 enum-told : tie.Need-enum-told
 enum-told c = search needs

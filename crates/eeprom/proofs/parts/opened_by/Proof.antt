@@ -1,8 +1,6 @@
 use borrow.Author.Tests.{eq-eqb, ne-eqb}
 use Rattle.eeprom.proofs.parts.opened_by.Statement.{statement}
 use Rattle.eeprom.proofs.parts.opened_by.Tie as tie
-use Rattle.eeprom.proofs.parts.opened_by.Reads as reads
-use Rattle.eeprom.proofs.parts.opened_by.Lts as lts
 
 returns : tie.Need-returns
 returns c = simp (eq-eqb _ _ (c .if1 .taken))

@@ -2,9 +2,6 @@ use native.Mathlib.Omega.{arith}
 use borrow.Author.Needs.{needs}
 use Rattle.eeprom.proofs.write.next_in_page.Statement.{statement}
 use Rattle.eeprom.proofs.write.next_in_page.Tie as tie
-use Rattle.eeprom.proofs.write.next_in_page.Reads as reads
-use Rattle.eeprom.proofs.write.next_in_page.Lts as lts
-use Rattle.page.proofs.rolled.Reads as rolled-reads
 
 mul-result : tie.Need-mul-result
 mul-result c = search needs

@@ -2,8 +2,6 @@ use borrow.Author.Tests.{le-ltb, lt-ltb}
 use borrow.Author.Needs.{needs}
 use Rattle.eeprom.proofs.write.one_more.Statement.{statement}
 use Rattle.eeprom.proofs.write.one_more.Tie as tie
-use Rattle.eeprom.proofs.write.one_more.Reads as reads
-use Rattle.eeprom.proofs.write.one_more.Lts as lts
 
 add-result : tie.Need-add-result
 add-result c = search needs

@@ -2,8 +2,6 @@ use borrow.Author.Tests.{le-ltb, lt-ltb}
 use borrow.Author.Needs.{needs}
 use Rattle.eeprom.proofs.write.sent_by.Statement.{statement}
 use Rattle.eeprom.proofs.write.sent_by.Tie as tie
-use Rattle.eeprom.proofs.write.sent_by.Reads as reads
-use Rattle.eeprom.proofs.write.sent_by.Lts as lts
 
 sub-t7 : tie.Need-sub-t7
 sub-t7 c = search needs

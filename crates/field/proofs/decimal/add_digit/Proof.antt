@@ -2,8 +2,6 @@ use borrow.Author.Tests.{le-ltb, lt-ltb}
 use borrow.Author.Needs.{needs}
 use Rattle.field.proofs.decimal.add_digit.Statement.{statement}
 use Rattle.field.proofs.decimal.add_digit.Tie as tie
-use Rattle.field.proofs.decimal.add_digit.Reads as reads
-use Rattle.field.proofs.decimal.add_digit.Lts as lts
 
 returns : tie.Need-returns
 returns c = simp (lt-ltb _ _ (c .if1 .taken))

@@ -2,9 +2,6 @@ use borrow.Author.Tests.{eq-eqb, ne-eqb}
 use borrow.Author.Needs.{needs}
 use Rattle.field.proofs.decimal.push.Statement.{statement}
 use Rattle.field.proofs.decimal.push.Tie as tie
-use Rattle.field.proofs.decimal.push.Reads as reads
-use Rattle.field.proofs.decimal.push.Lts as lts
-use Rattle.field.proofs.decimal.add_digit.Reads as add-digit-reads
 
 add-digit-requires : tie.Need-add-digit-requires
 add-digit-requires c κs = search needs

@@ -9,9 +9,6 @@ use Rattle.field.specs.Decimal.{largest}
 use Rattle.field.proofs.DecimalLaws.{decimalFrom, push-small, answers, at-tab, at-push, at-bad, at-end}
 use Rattle.field.proofs.decimal.read_decimal.Statement.{statement}
 use Rattle.field.proofs.decimal.read_decimal.Tie as tie
-use Rattle.field.proofs.decimal.read_decimal.Reads as reads
-use Rattle.field.proofs.decimal.read_decimal.Lts as lts
-use Rattle.field.proofs.decimal.push.Reads as push-reads
 
 abbrev Inv-loop : tie.InvT-loop
 Inv-loop text at₀ value₀ first₀ at value first = (value ≤ largest) × (decimalFrom true 0 at₀ (drop at₀ text) ≡ decimalFrom first value at (drop at text))

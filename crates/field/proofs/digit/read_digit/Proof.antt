@@ -3,8 +3,6 @@ use Rattle.field.proofs.DigitLaws.{digit-short, digit-out, digit-good}
 use borrow.Author.Needs.{needs}
 use Rattle.field.proofs.digit.read_digit.Statement.{statement}
 use Rattle.field.proofs.digit.read_digit.Tie as tie
-use Rattle.field.proofs.digit.read_digit.Reads as reads
-use Rattle.field.proofs.digit.read_digit.Lts as lts
 
 returns : tie.Need-returns
 returns c = digit-short _ _ _ _ (c .if1 .taken)

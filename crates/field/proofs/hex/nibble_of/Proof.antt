@@ -2,8 +2,6 @@ use borrow.Author.Tests.{le-leb, le-ltb, lt-leb, lt-ltb}
 use borrow.Author.Needs.{needs}
 use Rattle.field.proofs.hex.nibble_of.Statement.{statement}
 use Rattle.field.proofs.hex.nibble_of.Tie as tie
-use Rattle.field.proofs.hex.nibble_of.Reads as reads
-use Rattle.field.proofs.hex.nibble_of.Lts as lts
 
 returns : tie.Need-returns
 returns c = simp (lt-ltb _ _ (c .if1 .taken))

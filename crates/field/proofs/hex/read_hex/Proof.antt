@@ -7,9 +7,6 @@ use Prim.Native.Nat.{_+_}
 use borrow.Author.Needs.{needs}
 use Rattle.field.proofs.hex.read_hex.Statement.{statement}
 use Rattle.field.proofs.hex.read_hex.Tie as tie
-use Rattle.field.proofs.hex.read_hex.Reads as reads
-use Rattle.field.proofs.hex.read_hex.Lts as lts
-use Rattle.field.proofs.hex.nibble_of.Reads as nibble-of-reads
 
 returns : tie.Need-returns
 returns c = hex-short _ _ (omega arith)

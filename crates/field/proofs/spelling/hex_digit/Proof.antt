@@ -3,8 +3,6 @@ use borrow.Author.Tests.{le-ltb, lt-ltb}
 use borrow.Author.Needs.{needs}
 use Rattle.field.proofs.spelling.hex_digit.Statement.{statement}
 use Rattle.field.proofs.spelling.hex_digit.Tie as tie
-use Rattle.field.proofs.spelling.hex_digit.Reads as reads
-use Rattle.field.proofs.spelling.hex_digit.Lts as lts
 
 add-result : tie.Need-add-result
 add-result c = search needs

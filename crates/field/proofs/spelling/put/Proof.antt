@@ -2,8 +2,6 @@ use borrow.Author.Tests.{le-leb, lt-leb}
 use borrow.Author.Needs.{needs}
 use Rattle.field.proofs.spelling.put.Statement.{statement}
 use Rattle.field.proofs.spelling.put.Tie as tie
-use Rattle.field.proofs.spelling.put.Reads as reads
-use Rattle.field.proofs.spelling.put.Lts as lts
 
 returns : tie.Need-returns
 returns c = simp (le-leb _ _ (c .if1 .taken))

@@ -2,10 +2,6 @@ use Rattle.field.proofs.SpellingLaws.{put-hex}
 use borrow.Author.Needs.{needs}
 use Rattle.field.proofs.spelling.put_hex.Statement.{statement}
 use Rattle.field.proofs.spelling.put_hex.Tie as tie
-use Rattle.field.proofs.spelling.put_hex.Reads as reads
-use Rattle.field.proofs.spelling.put_hex.Lts as lts
-use Rattle.field.proofs.spelling.hex_digit.Reads as hex-digit-reads
-use Rattle.field.proofs.spelling.put.Reads as put-reads
 
 hex-digit-requires : tie.Need-hex-digit-requires
 hex-digit-requires c κs = search needs

@@ -8,9 +8,6 @@ use Rattle.field.specs.Spelling.{putAll}
 use Rattle.field.proofs.SpellingLaws.{put-none, put-more}
 use Rattle.field.proofs.spelling.put_word.Statement.{statement}
 use Rattle.field.proofs.spelling.put_word.Tie as tie
-use Rattle.field.proofs.spelling.put_word.Reads as reads
-use Rattle.field.proofs.spelling.put_word.Lts as lts
-use Rattle.field.proofs.spelling.put.Reads as put-reads
 
 abbrev Inv-loop : tie.InvT-loop
 Inv-loop word next₀ k₀ next k = (k ≤ length word) × (next ≡ putAll next₀ (take k word))

@@ -6,8 +6,6 @@ use lib.ListN.{length, getD}
 use Rattle.field.proofs.WordLaws.{word-short, word-miss, word-here, word-empty}
 use Rattle.field.proofs.word.read_word.Statement.{statement}
 use Rattle.field.proofs.word.read_word.Tie as tie
-use Rattle.field.proofs.word.read_word.Reads as reads
-use Rattle.field.proofs.word.read_word.Lts as lts
 
 abbrev Inv-loop : tie.InvT-loop
 Inv-loop text word at k₀ k = (k ≤ length word) × ((i : ℕ) → i < k → getD text (at + i) 0 ≡ getD word i 0)

@@ -1,13 +1,6 @@
 use borrow.Author.Needs.{needs}
 use Rattle.flash.proofs.Flash.byte.Statement.{statement}
 use Rattle.flash.proofs.Flash.byte.Tie as tie
-use Rattle.flash.proofs.Flash.byte.Reads as reads
-use Rattle.flash.proofs.Flash.byte.Lts as lts
-use Rattle.flash.proofs.Flash.further.Reads as further-reads
-use Rattle.flash.proofs.Flash.in_frame.Reads as in-frame-reads
-use Rattle.flash.proofs.cycle.running.Reads as running-reads
-use Rattle.flash.proofs.frame.opened.Reads as opened-reads
-use Rattle.flash.proofs.silent.Reads as silent-reads
 
 enum-told : tie.Need-enum-told
 enum-told c = search needs

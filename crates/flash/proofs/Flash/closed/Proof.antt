@@ -1,10 +1,6 @@
 use borrow.Author.Needs.{needs}
 use Rattle.flash.proofs.Flash.closed.Statement.{statement}
 use Rattle.flash.proofs.Flash.closed.Tie as tie
-use Rattle.flash.proofs.Flash.closed.Reads as reads
-use Rattle.flash.proofs.Flash.closed.Lts as lts
-use Rattle.flash.proofs.bare_chip.Reads as bare-chip-reads
-use Rattle.flash.proofs.silent.Reads as silent-reads
 
 enum-told : tie.Need-enum-told
 enum-told c = search needs

@@ -1,10 +1,6 @@
 use borrow.Author.Needs.{needs}
 use Rattle.flash.proofs.Flash.dark.Statement.{statement}
 use Rattle.flash.proofs.Flash.dark.Tie as tie
-use Rattle.flash.proofs.Flash.dark.Reads as reads
-use Rattle.flash.proofs.Flash.dark.Lts as lts
-use Rattle.flash.proofs.Flash.in_frame.Reads as in-frame-reads
-use Rattle.flash.proofs.silent.Reads as silent-reads
 
 enum-told : tie.Need-enum-told
 enum-told c = search needs

@@ -1,10 +1,6 @@
 use borrow.Author.Needs.{needs}
 use Rattle.flash.proofs.Flash.deselect.Statement.{statement}
 use Rattle.flash.proofs.Flash.deselect.Tie as tie
-use Rattle.flash.proofs.Flash.deselect.Reads as reads
-use Rattle.flash.proofs.Flash.deselect.Lts as lts
-use Rattle.flash.proofs.Flash.closed.Reads as closed-reads
-use Rattle.flash.proofs.cycle.effect_of.Reads as effect-of-reads
 
 enum-told : tie.Need-enum-told
 enum-told c = search needs

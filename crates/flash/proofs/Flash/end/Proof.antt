@@ -2,11 +2,6 @@ use Rattle.law.specs.Choice.{via}
 use borrow.Author.Needs.{needs}
 use Rattle.flash.proofs.Flash.end.Statement.{statement}
 use Rattle.flash.proofs.Flash.end.Tie as tie
-use Rattle.flash.proofs.Flash.end.Reads as reads
-use Rattle.flash.proofs.Flash.end.Lts as lts
-use Rattle.flash.proofs.bare_chip.Reads as bare-chip-reads
-use Rattle.flash.proofs.cycle.end_status.Reads as end-status-reads
-use Rattle.flash.proofs.cycle.running.Reads as running-reads
 
 running-requires : tie.Need-running-requires
 running-requires c κs = search needs

@@ -1,12 +1,6 @@
 use borrow.Author.Needs.{needs}
 use Rattle.flash.proofs.Flash.further.Statement.{statement}
 use Rattle.flash.proofs.Flash.further.Tie as tie
-use Rattle.flash.proofs.Flash.further.Reads as reads
-use Rattle.flash.proofs.Flash.further.Lts as lts
-use Rattle.flash.proofs.cycle.running.Reads as running-reads
-use Rattle.flash.proofs.frame.next_sent.Reads as next-sent-reads
-use Rattle.flash.proofs.frame.page_after.Reads as page-after-reads
-use Rattle.flash.proofs.frame.reply_to.Reads as reply-to-reads
 
 next-sent-requires : tie.Need-next-sent-requires
 next-sent-requires c κs = search needs

@@ -2,12 +2,6 @@ use borrow.Author.Needs.{needs}
 use Rattle.law.specs.Choice.{via}
 use Rattle.flash.proofs.Flash.line.Statement.{statement}
 use Rattle.flash.proofs.Flash.line.Tie as tie
-use Rattle.flash.proofs.Flash.line.Reads as reads
-use Rattle.flash.proofs.Flash.line.Lts as lts
-use Rattle.flash.proofs.Flash.lock_on.Reads as lock-on-reads
-use Rattle.flash.proofs.Flash.supply_off.Reads as supply-off-reads
-use Rattle.record.proofs.goes_off.Reads as goes-off-reads
-use Rattle.record.proofs.lock_comes_on.Reads as lock-comes-on-reads
 
 goes-off-requires : tie.Need-goes-off-requires
 goes-off-requires c κs = search needs

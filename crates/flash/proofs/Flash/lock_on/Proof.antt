@@ -1,9 +1,6 @@
 use borrow.Author.Needs.{needs}
 use Rattle.flash.proofs.Flash.lock_on.Statement.{statement}
 use Rattle.flash.proofs.Flash.lock_on.Tie as tie
-use Rattle.flash.proofs.Flash.lock_on.Reads as reads
-use Rattle.flash.proofs.Flash.lock_on.Lts as lts
-use Rattle.flash.proofs.frame.locked.Reads as locked-reads
 
 locked-requires : tie.Need-locked-requires
 locked-requires c κs = search needs

@@ -1,14 +1,6 @@
 use borrow.Author.Needs.{needs}
 use Rattle.flash.proofs.Flash.powered.Statement.{statement}
 use Rattle.flash.proofs.Flash.powered.Tie as tie
-use Rattle.flash.proofs.Flash.powered.Reads as reads
-use Rattle.flash.proofs.Flash.powered.Lts as lts
-use Rattle.flash.proofs.Flash.byte.Reads as byte-reads
-use Rattle.flash.proofs.Flash.deselect.Reads as deselect-reads
-use Rattle.flash.proofs.Flash.end.Reads as end-reads
-use Rattle.flash.proofs.Flash.in_frame.Reads as in-frame-reads
-use Rattle.flash.proofs.Flash.select.Reads as select-reads
-use Rattle.flash.proofs.silent.Reads as silent-reads
 
 enum-told : tie.Need-enum-told
 enum-told c = search needs

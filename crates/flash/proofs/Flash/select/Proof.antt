@@ -1,12 +1,6 @@
 use borrow.Author.Needs.{needs}
 use Rattle.flash.proofs.Flash.select.Statement.{statement}
 use Rattle.flash.proofs.Flash.select.Tie as tie
-use Rattle.flash.proofs.Flash.select.Reads as reads
-use Rattle.flash.proofs.Flash.select.Lts as lts
-use Rattle.flash.proofs.Flash.in_frame.Reads as in-frame-reads
-use Rattle.flash.proofs.cycle.running.Reads as running-reads
-use Rattle.flash.proofs.frame.fact_at.Reads as fact-at-reads
-use Rattle.flash.proofs.silent.Reads as silent-reads
 
 running-requires : tie.Need-running-requires
 running-requires c κs = search needs

@@ -1,10 +1,6 @@
 use borrow.Author.Needs.{needs}
 use Rattle.flash.proofs.Flash.step.Statement.{statement}
 use Rattle.flash.proofs.Flash.step.Tie as tie
-use Rattle.flash.proofs.Flash.step.Reads as reads
-use Rattle.flash.proofs.Flash.step.Lts as lts
-use Rattle.flash.proofs.Flash.dark.Reads as dark-reads
-use Rattle.flash.proofs.Flash.powered.Reads as powered-reads
 
 powered-requires : tie.Need-powered-requires
 powered-requires c κs = search needs

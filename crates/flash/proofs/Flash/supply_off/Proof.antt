@@ -1,11 +1,6 @@
 use borrow.Author.Needs.{needs}
 use Rattle.flash.proofs.Flash.supply_off.Statement.{statement}
 use Rattle.flash.proofs.Flash.supply_off.Tie as tie
-use Rattle.flash.proofs.Flash.supply_off.Reads as reads
-use Rattle.flash.proofs.Flash.supply_off.Lts as lts
-use Rattle.flash.proofs.bare_chip.Reads as bare-chip-reads
-use Rattle.flash.proofs.cycle.off_status.Reads as off-status-reads
-use Rattle.flash.proofs.frame.voided.Reads as voided-reads
 
 off-status-requires : tie.Need-off-status-requires
 off-status-requires c κs = search needs

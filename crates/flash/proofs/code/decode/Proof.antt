@@ -2,8 +2,6 @@ use borrow.Author.Tests.{ne-eqb}
 use borrow.Author.Needs.{needs}
 use Rattle.flash.proofs.code.decode.Statement.{statement}
 use Rattle.flash.proofs.code.decode.Tie as tie
-use Rattle.flash.proofs.code.decode.Reads as reads
-use Rattle.flash.proofs.code.decode.Lts as lts
 
 mul-n : tie.Need-mul-n
 mul-n c = search needs

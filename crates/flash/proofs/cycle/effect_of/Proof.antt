@@ -1,9 +1,6 @@
 use borrow.Author.Needs.{needs}
 use Rattle.flash.proofs.cycle.effect_of.Statement.{statement}
 use Rattle.flash.proofs.cycle.effect_of.Tie as tie
-use Rattle.flash.proofs.cycle.effect_of.Reads as reads
-use Rattle.flash.proofs.cycle.effect_of.Lts as lts
-use Rattle.flash.proofs.cycle.known_effect.Reads as known-effect-reads
 
 enum-told : tie.Need-enum-told
 enum-told c = search needs

@@ -1,16 +1,6 @@
 use borrow.Author.Needs.{needs}
 use Rattle.flash.proofs.cycle.known_effect.Statement.{statement}
 use Rattle.flash.proofs.cycle.known_effect.Tie as tie
-use Rattle.flash.proofs.cycle.known_effect.Reads as reads
-use Rattle.flash.proofs.cycle.known_effect.Lts as lts
-use Rattle.flash.proofs.code.kept_bits.Reads as kept-bits-reads
-use Rattle.flash.proofs.code.sector_of.Reads as sector-of-reads
-use Rattle.flash.proofs.code.with_enable.Reads as with-enable-reads
-use Rattle.flash.proofs.cycle.lock_bars.Reads as lock-bars-reads
-use Rattle.flash.proofs.cycle.may_start.Reads as may-start-reads
-use Rattle.flash.proofs.cycle.set_if.Reads as set-if-reads
-use Rattle.flash.proofs.cycle.start_if.Reads as start-if-reads
-use Rattle.flash.proofs.sector_locked.Reads as sector-locked-reads
 
 sector-of-requires : tie.Need-sector-of-requires
 sector-of-requires c κs = search needs

@@ -1,8 +1,6 @@
 use borrow.Author.Needs.{needs}
 use Rattle.flash.proofs.cycle.lock_bars.Statement.{statement}
 use Rattle.flash.proofs.cycle.lock_bars.Tie as tie
-use Rattle.flash.proofs.cycle.lock_bars.Reads as reads
-use Rattle.flash.proofs.cycle.lock_bars.Lts as lts
 
 enum-told : tie.Need-enum-told
 enum-told c = search needs

@@ -1,8 +1,6 @@
 use borrow.Author.Needs.{needs}
 use Rattle.flash.proofs.cycle.may_start.Statement.{statement}
 use Rattle.flash.proofs.cycle.may_start.Tie as tie
-use Rattle.flash.proofs.cycle.may_start.Reads as reads
-use Rattle.flash.proofs.cycle.may_start.Lts as lts
 
 returns : tie.Need-returns
 returns c = search needs

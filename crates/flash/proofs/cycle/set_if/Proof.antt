@@ -1,8 +1,6 @@
 use borrow.Author.Needs.{needs}
 use Rattle.flash.proofs.cycle.set_if.Statement.{statement}
 use Rattle.flash.proofs.cycle.set_if.Tie as tie
-use Rattle.flash.proofs.cycle.set_if.Reads as reads
-use Rattle.flash.proofs.cycle.set_if.Lts as lts
 
 returns : tie.Need-returns
 returns c = simp (c .if1 .taken)

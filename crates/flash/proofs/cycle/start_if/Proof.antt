@@ -1,8 +1,6 @@
 use borrow.Author.Needs.{needs}
 use Rattle.flash.proofs.cycle.start_if.Statement.{statement}
 use Rattle.flash.proofs.cycle.start_if.Tie as tie
-use Rattle.flash.proofs.cycle.start_if.Reads as reads
-use Rattle.flash.proofs.cycle.start_if.Lts as lts
 
 returns : tie.Need-returns
 returns c = simp (c .if1 .taken)

@@ -1,11 +1,6 @@
 use borrow.Author.Needs.{needs}
 use Rattle.flash.proofs.equal.frame_numbers.Statement.{statement}
 use Rattle.flash.proofs.equal.frame_numbers.Tie as tie
-use Rattle.flash.proofs.equal.frame_numbers.Reads as reads
-use Rattle.flash.proofs.equal.frame_numbers.Lts as lts
-use Rattle.flash.proofs.equal.fact_number.Reads as fact-number-reads
-use Rattle.flash.proofs.equal.op_number.Reads as op-number-reads
-use Rattle.law.proofs.numbers_of.Reads as numbers-of-reads
 
 enum-told : tie.Need-enum-told
 enum-told c = search needs

@@ -2,10 +2,6 @@ use Rattle.flash.specs.Equal.{cycle-right}
 use borrow.Author.Needs.{needs}
 use Rattle.flash.proofs.equal.same_cycle.Statement.{statement}
 use Rattle.flash.proofs.equal.same_cycle.Tie as tie
-use Rattle.flash.proofs.equal.same_cycle.Reads as reads
-use Rattle.flash.proofs.equal.same_cycle.Lts as lts
-use Rattle.flash.proofs.equal.cycle_numbers.Reads as cycle-numbers-reads
-use Rattle.law.proofs.same_numbers.Reads as same-numbers-reads
 
 cycle-numbers-requires : tie.Need-cycle-numbers-requires
 cycle-numbers-requires c κs = search needs

@@ -2,10 +2,6 @@ use Rattle.flash.specs.Equal.{frame-right}
 use borrow.Author.Needs.{needs}
 use Rattle.flash.proofs.equal.same_frame.Statement.{statement}
 use Rattle.flash.proofs.equal.same_frame.Tie as tie
-use Rattle.flash.proofs.equal.same_frame.Reads as reads
-use Rattle.flash.proofs.equal.same_frame.Lts as lts
-use Rattle.flash.proofs.equal.frame_numbers.Reads as frame-numbers-reads
-use Rattle.law.proofs.same_numbers.Reads as same-numbers-reads
 
 frame-numbers-requires : tie.Need-frame-numbers-requires
 frame-numbers-requires c κs = search needs

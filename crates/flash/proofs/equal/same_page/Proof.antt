@@ -3,9 +3,6 @@ use Rattle.law.specs.Choice.{true-not-false}
 use borrow.Author.Needs.{needs}
 use Rattle.flash.proofs.equal.same_page.Statement.{statement}
 use Rattle.flash.proofs.equal.same_page.Tie as tie
-use Rattle.flash.proofs.equal.same_page.Reads as reads
-use Rattle.flash.proofs.equal.same_page.Lts as lts
-use Rattle.check.proofs.same.Reads as same-reads
 
 slice-aggregate-same : tie.Need-slice-aggregate-same
 slice-aggregate-same c = search needs

@@ -2,10 +2,6 @@ use Rattle.flash.specs.Equal.{status-right}
 use borrow.Author.Needs.{needs}
 use Rattle.flash.proofs.equal.same_status.Statement.{statement}
 use Rattle.flash.proofs.equal.same_status.Tie as tie
-use Rattle.flash.proofs.equal.same_status.Reads as reads
-use Rattle.flash.proofs.equal.same_status.Lts as lts
-use Rattle.flash.proofs.equal.status_numbers.Reads as status-numbers-reads
-use Rattle.law.proofs.same_numbers.Reads as same-numbers-reads
 
 status-numbers-requires : tie.Need-status-numbers-requires
 status-numbers-requires c κs = search needs

@@ -1,9 +1,6 @@
 use borrow.Author.Needs.{needs}
 use Rattle.flash.proofs.equal.status_numbers.Statement.{statement}
 use Rattle.flash.proofs.equal.status_numbers.Tie as tie
-use Rattle.flash.proofs.equal.status_numbers.Reads as reads
-use Rattle.flash.proofs.equal.status_numbers.Lts as lts
-use Rattle.law.proofs.numbers_of.Reads as numbers-of-reads
 
 enum-told : tie.Need-enum-told
 enum-told c = search needs

@@ -2,8 +2,6 @@ use borrow.Author.Tests.{le-leb, lt-leb}
 use borrow.Author.Needs.{needs}
 use Rattle.flash.proofs.frame.fact_at.Statement.{statement}
 use Rattle.flash.proofs.frame.fact_at.Tie as tie
-use Rattle.flash.proofs.frame.fact_at.Reads as reads
-use Rattle.flash.proofs.frame.fact_at.Lts as lts
 
 returns : tie.Need-returns
 returns c = search needs

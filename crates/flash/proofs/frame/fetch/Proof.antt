@@ -4,9 +4,6 @@ use borrow.Author.Tests.{eq-eqb, le-ltb, lt-ltb, ne-eqb}
 use borrow.Author.Needs.{needs}
 use Rattle.flash.proofs.frame.fetch.Statement.{statement}
 use Rattle.flash.proofs.frame.fetch.Tie as tie
-use Rattle.flash.proofs.frame.fetch.Reads as reads
-use Rattle.flash.proofs.frame.fetch.Lts as lts
-use Rattle.flash.proofs.code.sector_of.Reads as sector-of-reads
 
 returns : tie.Need-returns
 returns c = simp (lt-ltb _ _ (c .if1 .taken))

@@ -1,8 +1,6 @@
 use borrow.Author.Tests.{ne-eqb}
 use Rattle.flash.proofs.frame.identity.Statement.{statement}
 use Rattle.flash.proofs.frame.identity.Tie as tie
-use Rattle.flash.proofs.frame.identity.Reads as reads
-use Rattle.flash.proofs.frame.identity.Lts as lts
 
 returns : tie.Need-returns
 returns c = simp (c .match .keys1)

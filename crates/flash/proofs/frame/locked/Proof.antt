@@ -1,9 +1,6 @@
 use borrow.Author.Needs.{needs}
 use Rattle.flash.proofs.frame.locked.Statement.{statement}
 use Rattle.flash.proofs.frame.locked.Tie as tie
-use Rattle.flash.proofs.frame.locked.Reads as reads
-use Rattle.flash.proofs.frame.locked.Lts as lts
-use Rattle.flash.proofs.frame.locked_fact.Reads as locked-fact-reads
 
 enum-told : tie.Need-enum-told
 enum-told c = search needs

@@ -2,9 +2,6 @@ use native.Mathlib.Omega.{arith}
 use borrow.Author.Needs.{needs}
 use Rattle.flash.proofs.frame.moved_on.Statement.{statement}
 use Rattle.flash.proofs.frame.moved_on.Tie as tie
-use Rattle.flash.proofs.frame.moved_on.Reads as reads
-use Rattle.flash.proofs.frame.moved_on.Lts as lts
-use Rattle.page.proofs.rolled.Reads as rolled-reads
 
 enum-told : tie.Need-enum-told
 enum-told c = search needs

@@ -2,9 +2,6 @@ use borrow.Author.Tests.{le-ltb, lt-ltb}
 use borrow.Author.Needs.{needs}
 use Rattle.flash.proofs.frame.next_sent.Statement.{statement}
 use Rattle.flash.proofs.frame.next_sent.Tie as tie
-use Rattle.flash.proofs.frame.next_sent.Reads as reads
-use Rattle.flash.proofs.frame.next_sent.Lts as lts
-use Rattle.flash.proofs.frame.moved_on.Reads as moved-on-reads
 
 add-t8 : tie.Need-add-t8
 add-t8 c = search needs

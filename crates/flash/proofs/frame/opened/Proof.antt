@@ -2,10 +2,6 @@ use Rattle.law.specs.Choice.{via}
 use borrow.Author.Needs.{needs}
 use Rattle.flash.proofs.frame.opened.Statement.{statement}
 use Rattle.flash.proofs.frame.opened.Tie as tie
-use Rattle.flash.proofs.frame.opened.Reads as reads
-use Rattle.flash.proofs.frame.opened.Lts as lts
-use Rattle.flash.proofs.code.decode.Reads as decode-reads
-use Rattle.flash.proofs.frame.is_served.Reads as is-served-reads
 
 decode-requires : tie.Need-decode-requires
 decode-requires c κs = search needs

@@ -1,9 +1,6 @@
 use borrow.Author.Needs.{needs}
 use Rattle.flash.proofs.frame.page_after.Statement.{statement}
 use Rattle.flash.proofs.frame.page_after.Tie as tie
-use Rattle.flash.proofs.frame.page_after.Reads as reads
-use Rattle.flash.proofs.frame.page_after.Lts as lts
-use Rattle.flash.proofs.frame.put_byte.Reads as put-byte-reads
 
 enum-told : tie.Need-enum-told
 enum-told c = search needs

@@ -2,8 +2,6 @@ use borrow.Author.Tests.{le-ltb, lt-ltb}
 use borrow.Author.Needs.{needs}
 use Rattle.flash.proofs.frame.put_byte.Statement.{statement}
 use Rattle.flash.proofs.frame.put_byte.Tie as tie
-use Rattle.flash.proofs.frame.put_byte.Reads as reads
-use Rattle.flash.proofs.frame.put_byte.Lts as lts
 
 returns : tie.Need-returns
 returns c = simp (lt-ltb _ _ (c .if1 .taken))

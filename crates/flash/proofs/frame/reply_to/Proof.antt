@@ -1,11 +1,6 @@
 use borrow.Author.Needs.{needs}
 use Rattle.flash.proofs.frame.reply_to.Statement.{statement}
 use Rattle.flash.proofs.frame.reply_to.Tie as tie
-use Rattle.flash.proofs.frame.reply_to.Reads as reads
-use Rattle.flash.proofs.frame.reply_to.Lts as lts
-use Rattle.flash.proofs.frame.fetch.Reads as fetch-reads
-use Rattle.flash.proofs.frame.identity.Reads as identity-reads
-use Rattle.flash.proofs.frame.status_reply.Reads as status-reply-reads
 
 enum-told : tie.Need-enum-told
 enum-told c = search needs

@@ -1,8 +1,6 @@
 use borrow.Author.Needs.{needs}
 use Rattle.flash.proofs.frame.status_reply.Statement.{statement}
 use Rattle.flash.proofs.frame.status_reply.Tie as tie
-use Rattle.flash.proofs.frame.status_reply.Reads as reads
-use Rattle.flash.proofs.frame.status_reply.Lts as lts
 
 enum-told : tie.Need-enum-told
 enum-told c = search needs

@@ -3,9 +3,6 @@ use native.Mathlib.Omega.{arith}
 use borrow.Author.Needs.{needs}
 use Rattle.line.proofs.boards.in_range.Statement.{statement}
 use Rattle.line.proofs.boards.in_range.Tie as tie
-use Rattle.line.proofs.boards.in_range.Reads as reads
-use Rattle.line.proofs.boards.in_range.Lts as lts
-use Rattle.record.proofs.status_ok.Reads as status-ok-reads
 
 status-ok-requires : tie.Need-status-ok-requires
 status-ok-requires c κs = search needs

@@ -2,12 +2,6 @@ use Rattle.line.proofs.BoardLaws.{put-from-nothing}
 use borrow.Author.Needs.{needs}
 use Rattle.line.proofs.boards.put_board.Statement.{statement}
 use Rattle.line.proofs.boards.put_board.Tie as tie
-use Rattle.line.proofs.boards.put_board.Reads as reads
-use Rattle.line.proofs.boards.put_board.Lts as lts
-use Rattle.field.proofs.no_bytes.Reads as no-bytes-reads
-use Rattle.field.proofs.put_decimal.Reads as put-decimal-reads
-use Rattle.field.proofs.put_hex.Reads as put-hex-reads
-use Rattle.field.proofs.put_word.Reads as put-word-reads
 
 no-bytes-requires : tie.Need-no-bytes-requires
 no-bytes-requires c κs = search needs

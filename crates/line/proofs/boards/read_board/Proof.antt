@@ -5,11 +5,6 @@ use Rattle.field.proofs.Reading.{got-none, got-one}
 use borrow.Author.Needs.{needs}
 use Rattle.line.proofs.boards.read_board.Statement.{statement}
 use Rattle.line.proofs.boards.read_board.Tie as tie
-use Rattle.line.proofs.boards.read_board.Reads as reads
-use Rattle.line.proofs.boards.read_board.Lts as lts
-use Rattle.field.proofs.read_word.Reads as read-word-reads
-use Rattle.line.proofs.boards.read_places.Reads as read-places-reads
-use Rattle.line.proofs.boards.read_status.Reads as read-status-reads
 
 slice-aggregate-read-word : tie.Need-slice-aggregate-read-word
 slice-aggregate-read-word c = search needs

@@ -4,10 +4,6 @@ use Rattle.field.proofs.Reading.{got-none, got-one}
 use borrow.Author.Needs.{needs}
 use Rattle.line.proofs.boards.read_places.Statement.{statement}
 use Rattle.line.proofs.boards.read_places.Tie as tie
-use Rattle.line.proofs.boards.read_places.Reads as reads
-use Rattle.line.proofs.boards.read_places.Lts as lts
-use Rattle.field.proofs.read_digit.Reads as read-digit-reads
-use Rattle.field.proofs.read_word.Reads as read-word-reads
 
 read-digit-requires : tie.Need-read-digit-requires
 read-digit-requires c κs = search needs

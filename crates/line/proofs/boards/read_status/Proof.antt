@@ -6,10 +6,6 @@ use Rattle.field.proofs.Answers.{tells-hex}
 use borrow.Author.Needs.{needs}
 use Rattle.line.proofs.boards.read_status.Statement.{statement}
 use Rattle.line.proofs.boards.read_status.Tie as tie
-use Rattle.line.proofs.boards.read_status.Reads as reads
-use Rattle.line.proofs.boards.read_status.Lts as lts
-use Rattle.field.proofs.read_hex.Reads as read-hex-reads
-use Rattle.record.proofs.status_ok.Reads as status-ok-reads
 
 read-hex-requires : tie.Need-read-hex-requires
 read-hex-requires c κs = search needs

@@ -5,11 +5,6 @@ use Rattle.line.proofs.OutputLaws.{board-length, fits-board, wrote-as, 
 use borrow.Author.Needs.{needs}
 use Rattle.line.proofs.boards.write_board.Statement.{statement}
 use Rattle.line.proofs.boards.write_board.Tie as tie
-use Rattle.line.proofs.boards.write_board.Reads as reads
-use Rattle.line.proofs.boards.write_board.Lts as lts
-use Rattle.line.proofs.boards.in_range.Reads as in-range-reads
-use Rattle.line.proofs.boards.put_board.Reads as put-board-reads
-use Rattle.line.proofs.output.copy_out.Reads as copy-out-reads
 
 in-range-requires : tie.Need-in-range-requires
 in-range-requires c κs = search needs

@@ -3,9 +3,6 @@ use Rattle.line.specs.ChannelE.{spelledBit}
 use borrow.Author.Needs.{needs}
 use Rattle.line.proofs.channel_e.put_bit.Statement.{statement}
 use Rattle.line.proofs.channel_e.put_bit.Tie as tie
-use Rattle.line.proofs.channel_e.put_bit.Reads as reads
-use Rattle.line.proofs.channel_e.put_bit.Lts as lts
-use Rattle.field.proofs.put_word.Reads as put-word-reads
 
 slice-aggregate-put-word : tie.Need-slice-aggregate-put-word
 slice-aggregate-put-word c = search needs

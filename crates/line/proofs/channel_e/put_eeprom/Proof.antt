@@ -4,11 +4,6 @@ use Rattle.line.specs.ChannelE.{spelledEeprom}
 use borrow.Author.Needs.{needs}
 use Rattle.line.proofs.channel_e.put_eeprom.Statement.{statement}
 use Rattle.line.proofs.channel_e.put_eeprom.Tie as tie
-use Rattle.line.proofs.channel_e.put_eeprom.Reads as reads
-use Rattle.line.proofs.channel_e.put_eeprom.Lts as lts
-use Rattle.field.proofs.put_hex.Reads as put-hex-reads
-use Rattle.field.proofs.put_word.Reads as put-word-reads
-use Rattle.line.proofs.channel_e.put_bit.Reads as put-bit-reads
 
 enum-told : tie.Need-enum-told
 enum-told c = search needs

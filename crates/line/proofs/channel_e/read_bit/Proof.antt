@@ -6,9 +6,6 @@ use Rattle.field.proofs.Reading.{got-none, got-one}
 use borrow.Author.Needs.{needs}
 use Rattle.line.proofs.channel_e.read_bit.Statement.{statement}
 use Rattle.line.proofs.channel_e.read_bit.Tie as tie
-use Rattle.line.proofs.channel_e.read_bit.Reads as reads
-use Rattle.line.proofs.channel_e.read_bit.Lts as lts
-use Rattle.field.proofs.read_word.Reads as read-word-reads
 
 slice-aggregate-read-word : tie.Need-slice-aggregate-read-word
 slice-aggregate-read-word c = search needs

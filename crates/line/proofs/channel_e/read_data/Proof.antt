@@ -5,10 +5,6 @@ use Rattle.field.proofs.Reading.{got-none, got-one}
 use borrow.Author.Needs.{needs}
 use Rattle.line.proofs.channel_e.read_data.Statement.{statement}
 use Rattle.line.proofs.channel_e.read_data.Tie as tie
-use Rattle.line.proofs.channel_e.read_data.Reads as reads
-use Rattle.line.proofs.channel_e.read_data.Lts as lts
-use Rattle.field.proofs.read_hex.Reads as read-hex-reads
-use Rattle.line.proofs.channel_e.read_bit.Reads as read-bit-reads
 
 read-hex-requires : tie.Need-read-hex-requires
 read-hex-requires c κs = search needs

@@ -7,10 +7,6 @@ use Rattle.field.proofs.Reading.{got-none, got-one}
 use borrow.Author.Needs.{needs}
 use Rattle.line.proofs.channel_e.read_eeprom.Statement.{statement}
 use Rattle.line.proofs.channel_e.read_eeprom.Tie as tie
-use Rattle.line.proofs.channel_e.read_eeprom.Reads as reads
-use Rattle.line.proofs.channel_e.read_eeprom.Lts as lts
-use Rattle.field.proofs.read_word.Reads as read-word-reads
-use Rattle.line.proofs.channel_e.read_data.Reads as read-data-reads
 
 slice-aggregate-read-word : tie.Need-slice-aggregate-read-word
 slice-aggregate-read-word c = search needs

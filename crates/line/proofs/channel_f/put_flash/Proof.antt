@@ -4,10 +4,6 @@ use Rattle.line.specs.ChannelF.{spelledFlash}
 use borrow.Author.Needs.{needs}
 use Rattle.line.proofs.channel_f.put_flash.Statement.{statement}
 use Rattle.line.proofs.channel_f.put_flash.Tie as tie
-use Rattle.line.proofs.channel_f.put_flash.Reads as reads
-use Rattle.line.proofs.channel_f.put_flash.Lts as lts
-use Rattle.field.proofs.put_hex.Reads as put-hex-reads
-use Rattle.field.proofs.put_word.Reads as put-word-reads
 
 enum-told : tie.Need-enum-told
 enum-told c = search needs

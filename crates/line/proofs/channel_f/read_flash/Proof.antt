@@ -7,10 +7,6 @@ use Rattle.field.proofs.Reading.{got-none, got-one}
 use borrow.Author.Needs.{needs}
 use Rattle.line.proofs.channel_f.read_flash.Statement.{statement}
 use Rattle.line.proofs.channel_f.read_flash.Tie as tie
-use Rattle.line.proofs.channel_f.read_flash.Reads as reads
-use Rattle.line.proofs.channel_f.read_flash.Lts as lts
-use Rattle.field.proofs.read_word.Reads as read-word-reads
-use Rattle.line.proofs.channel_f.read_pair.Reads as read-pair-reads
 
 slice-aggregate-read-word : tie.Need-slice-aggregate-read-word
 slice-aggregate-read-word c = search needs

@@ -4,10 +4,6 @@ use Rattle.field.proofs.Reading.{got-none, got-one}
 use borrow.Author.Needs.{needs}
 use Rattle.line.proofs.channel_f.read_pair.Statement.{statement}
 use Rattle.line.proofs.channel_f.read_pair.Tie as tie
-use Rattle.line.proofs.channel_f.read_pair.Reads as reads
-use Rattle.line.proofs.channel_f.read_pair.Lts as lts
-use Rattle.field.proofs.read_hex.Reads as read-hex-reads
-use Rattle.field.proofs.read_word.Reads as read-word-reads
 
 read-hex-requires : tie.Need-read-hex-requires
 read-hex-requires c κs = search needs

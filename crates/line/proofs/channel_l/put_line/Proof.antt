@@ -3,9 +3,6 @@ use Rattle.line.specs.ChannelL.{spelledLine}
 use borrow.Author.Needs.{needs}
 use Rattle.line.proofs.channel_l.put_line.Statement.{statement}
 use Rattle.line.proofs.channel_l.put_line.Tie as tie
-use Rattle.line.proofs.channel_l.put_line.Reads as reads
-use Rattle.line.proofs.channel_l.put_line.Lts as lts
-use Rattle.field.proofs.put_word.Reads as put-word-reads
 
 enum-told : tie.Need-enum-told
 enum-told c = search needs

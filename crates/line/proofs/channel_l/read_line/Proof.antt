@@ -6,9 +6,6 @@ use Rattle.field.proofs.Reading.{got-none, got-one}
 use borrow.Author.Needs.{needs}
 use Rattle.line.proofs.channel_l.read_line.Statement.{statement}
 use Rattle.line.proofs.channel_l.read_line.Tie as tie
-use Rattle.line.proofs.channel_l.read_line.Reads as reads
-use Rattle.line.proofs.channel_l.read_line.Lts as lts
-use Rattle.field.proofs.read_word.Reads as read-word-reads
 
 slice-aggregate-read-word : tie.Need-slice-aggregate-read-word
 slice-aggregate-read-word c = search needs

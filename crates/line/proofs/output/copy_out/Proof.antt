@@ -6,11 +6,9 @@ use mathlib.Core.List.{_++_}
 use mathlib.Core.Path.{_≡_, refl, sym, ap, _∙_}
 use borrow.Author.Needs.{needs}
 use native.Mathlib.Omega.{arith}
-use Prim.Native.Nat.{_≤_, _+_, _-_}
+use Prim.Native.Nat.{_≤_, _-_}
 use Rattle.line.proofs.output.copy_out.Statement.{statement}
 use Rattle.line.proofs.output.copy_out.Tie as tie
-use Rattle.line.proofs.output.copy_out.Reads as reads
-use Rattle.line.proofs.output.copy_out.Lts as lts
 
 abbrev Inv-loop : tie.InvT-loop
 Inv-loop out₀ s n k₀ out k = (k ≤ n) × (out ≡ take k (s .bytes) ++ drop k out₀) × (length out ≡ length out₀)

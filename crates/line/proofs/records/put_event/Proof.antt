@@ -4,12 +4,6 @@ use Rattle.line.specs.Records.{spelledEvent}
 use borrow.Author.Needs.{needs}
 use Rattle.line.proofs.records.put_event.Statement.{statement}
 use Rattle.line.proofs.records.put_event.Tie as tie
-use Rattle.line.proofs.records.put_event.Reads as reads
-use Rattle.line.proofs.records.put_event.Lts as lts
-use Rattle.field.proofs.put_word.Reads as put-word-reads
-use Rattle.line.proofs.channel_e.put_eeprom.Reads as put-eeprom-reads
-use Rattle.line.proofs.channel_f.put_flash.Reads as put-flash-reads
-use Rattle.line.proofs.channel_l.put_line.Reads as put-line-reads
 
 enum-known-e : tie.Need-enum-known-e
 enum-known-e c = search needs

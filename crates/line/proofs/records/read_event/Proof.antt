@@ -10,12 +10,6 @@ use Rattle.field.proofs.Reading.{got-none, got-one}
 use borrow.Author.Needs.{needs}
 use Rattle.line.proofs.records.read_event.Statement.{statement}
 use Rattle.line.proofs.records.read_event.Tie as tie
-use Rattle.line.proofs.records.read_event.Reads as reads
-use Rattle.line.proofs.records.read_event.Lts as lts
-use Rattle.field.proofs.read_word.Reads as read-word-reads
-use Rattle.line.proofs.channel_e.read_eeprom.Reads as read-eeprom-reads
-use Rattle.line.proofs.channel_f.read_flash.Reads as read-flash-reads
-use Rattle.line.proofs.channel_l.read_line.Reads as read-line-reads
 
 slice-aggregate-read-word : tie.Need-slice-aggregate-read-word
 slice-aggregate-read-word c = search needs

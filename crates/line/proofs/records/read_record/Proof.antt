@@ -5,10 +5,6 @@ use Rattle.field.proofs.Reading.{got-none, got-one}
 use borrow.Author.Needs.{needs}
 use Rattle.line.proofs.records.read_record.Statement.{statement}
 use Rattle.line.proofs.records.read_record.Tie as tie
-use Rattle.line.proofs.records.read_record.Reads as reads
-use Rattle.line.proofs.records.read_record.Lts as lts
-use Rattle.field.proofs.read_decimal.Reads as read-decimal-reads
-use Rattle.line.proofs.records.read_event.Reads as read-event-reads
 
 read-decimal-requires : tie.Need-read-decimal-requires
 read-decimal-requires c κs = search needs

@@ -6,13 +6,6 @@ use Rattle.line.proofs.OutputLaws.{spelled-length-max, fits-record, wro
 use borrow.Author.Needs.{needs}
 use Rattle.line.proofs.records.write_record.Statement.{statement}
 use Rattle.line.proofs.records.write_record.Tie as tie
-use Rattle.line.proofs.records.write_record.Reads as reads
-use Rattle.line.proofs.records.write_record.Lts as lts
-use Rattle.field.proofs.no_bytes.Reads as no-bytes-reads
-use Rattle.field.proofs.put_decimal.Reads as put-decimal-reads
-use Rattle.field.proofs.put_word.Reads as put-word-reads
-use Rattle.line.proofs.output.copy_out.Reads as copy-out-reads
-use Rattle.line.proofs.records.put_event.Reads as put-event-reads
 
 no-bytes-requires : tie.Need-no-bytes-requires
 no-bytes-requires c κs = search needs

@@ -1,3 +1,4 @@
+use Rattle.machine.specs.Effects.{eepromAfter}
 use borrow.Author.Needs.{needs}
 use Rattle.machine.proofs.effects.eeprom_whole.Statement.{statement}
 use Rattle.machine.proofs.effects.eeprom_whole.Tie as tie
@@ -6,6 +7,7 @@ enum-told : tie.Need-enum-told
 enum-told c = search needs
 
 returns : tie.Need-returns
+unfolding eepromAfter
 returns c = simp (c .enum-told .given .1)
 
 enum-known-cycle : tie.Need-enum-known-cycle
@@ -30,6 +32,7 @@ same-length-2 : tie.Need-same-length-2
 same-length-2 c = search needs
 
 returns-2 : tie.Need-returns-2
+unfolding eepromAfter
 returns-2 c = simp (c .before .before .before .before .before .before .before .before .before .before .before .cycle .given .1, c .before .before .before .before .store-page .ensures)
 
 pub eeprom-whole-spec : {M : Type 1} → statement M

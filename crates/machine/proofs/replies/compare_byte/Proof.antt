@@ -1,4 +1,3 @@
-use Rattle.law.specs.Choice.{via}
 use borrow.Author.Tests.{eq-eqb, ne-eqb}
 use borrow.Author.Needs.{needs}
 use Rattle.machine.proofs.replies.compare_byte.Statement.{statement}
@@ -10,11 +9,11 @@ returns c = simp (eq-eqb _ _ (c .if1 .taken))
 agrees-requires : tie.Need-agrees-requires
 agrees-requires c κs = search needs
 
-returns-2 : tie.Need-returns-2
-returns-2 c = simp (ne-eqb _ _ (c .before .before .if1 .left), via (c .before .agrees .ensures) (c .if2 .taken))
+agrees-if-requires : tie.Need-agrees-if-requires
+agrees-if-requires c κs = search needs
 
-returns-3 : tie.Need-returns-3
-returns-3 c = simp (ne-eqb _ _ (c .before .before .if1 .left), via (c .before .agrees .ensures) (c .if2 .left))
+returns-2 : tie.Need-returns-2
+returns-2 c = simp (ne-eqb _ _ (c .before .before .if1 .left), c .before .agrees .ensures, c .agrees-if .ensures)
 
 pub compare-byte-spec : {M : Type 1} → statement M
-compare-byte-spec = tie.close (tie.spec returns agrees-requires returns-2 returns-3)
+compare-byte-spec = tie.close (tie.spec returns agrees-requires agrees-if-requires returns-2)

@@ -8,8 +8,14 @@ enum-told c = search needs
 enum-known-e : tie.Need-enum-known-e
 enum-known-e c = search needs
 
-compare-eeprom-requires : tie.Need-compare-eeprom-requires
-compare-eeprom-requires c κs = search needs
+agrees-if-requires : tie.Need-agrees-if-requires
+agrees-if-requires c κs = search needs
+
+agrees-if-requires-2 : tie.Need-agrees-if-requires-2
+agrees-if-requires-2 c κs = search needs
+
+compare-to-requires : tie.Need-compare-to-requires
+compare-to-requires c κs = search needs
 
 enum-told-2 : tie.Need-enum-told-2
 enum-told-2 c = search needs
@@ -24,7 +30,7 @@ returns : tie.Need-returns
 returns c = search needs
 
 returns-2 : tie.Need-returns-2
-returns-2 c = simp (c .before .before .e .given .1, c .compare-eeprom .ensures)
+returns-2 c = simp (c .before .before .before .before .e .given .1, c .before .before .agrees-if .ensures, c .before .agrees-if2 .ensures, c .compare-to .ensures)
 
 returns-3 : tie.Need-returns-3
 returns-3 c = search needs
@@ -41,7 +47,9 @@ see-eeprom-spec =
     (tie.spec
     enum-told
     enum-known-e
-    compare-eeprom-requires
+    agrees-if-requires
+    agrees-if-requires-2
+    compare-to-requires
     enum-told-2
     enum-told-3
     enum-told-4

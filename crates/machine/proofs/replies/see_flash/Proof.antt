@@ -8,8 +8,8 @@ enum-told c = search needs
 enum-known-e : tie.Need-enum-known-e
 enum-known-e c = search needs
 
-compare-flash-requires : tie.Need-compare-flash-requires
-compare-flash-requires c κs = search needs
+compare-to-requires : tie.Need-compare-to-requires
+compare-to-requires c κs = search needs
 
 enum-told-2 : tie.Need-enum-told-2
 enum-told-2 c = search needs
@@ -24,7 +24,7 @@ returns : tie.Need-returns
 returns c = search needs
 
 returns-2 : tie.Need-returns-2
-returns-2 c = simp (c .before .before .e .given .1, c .compare-flash .ensures)
+returns-2 c = simp (c .before .before .e .given .1, c .compare-to .ensures)
 
 returns-3 : tie.Need-returns-3
 returns-3 c = search needs
@@ -41,7 +41,7 @@ see-flash-spec =
     (tie.spec
     enum-told
     enum-known-e
-    compare-flash-requires
+    compare-to-requires
     enum-told-2
     enum-told-3
     enum-told-4

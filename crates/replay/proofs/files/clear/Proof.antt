@@ -6,8 +6,6 @@ use mathlib.Core.Path.{_≡_, refl, ap, _∙_}
 use Prim.Native.Nat.{ℕ, _≤_, _-_}
 use Rattle.replay.proofs.files.clear.Statement.{statement}
 use Rattle.replay.proofs.files.clear.Tie as tie
-use Rattle.replay.proofs.files.clear.Reads as reads
-use Rattle.replay.proofs.files.clear.Lts as lts
 
 abbrev Inv-loop : tie.InvT-loop
 Inv-loop mask₀ k₀ mask k = (k ≤ length mask₀) × (length mask ≡ length mask₀) × (mask ≡ replicate k 0 ++ drop k mask₀)

@@ -3,10 +3,6 @@ use native.Mathlib.Omega.{arith}
 use borrow.Author.Needs.{needs}
 use Rattle.replay.proofs.files.dump.Statement.{statement}
 use Rattle.replay.proofs.files.dump.Tie as tie
-use Rattle.replay.proofs.files.dump.Reads as reads
-use Rattle.replay.proofs.files.dump.Lts as lts
-use Rattle.replay.proofs.files.clear.Reads as clear-reads
-use Rattle.replay.proofs.files.load.Reads as load-reads
 
 load-requires : tie.Need-load-requires
 load-requires c κs = search needs

@@ -2,13 +2,6 @@ use Rattle.replay.proofs.Cases.{loads, loads-none, loads-not}
 use borrow.Author.Needs.{needs}
 use Rattle.replay.proofs.files.load.Statement.{statement}
 use Rattle.replay.proofs.files.load.Tie as tie
-use Rattle.replay.proofs.files.load.Reads as reads
-use Rattle.replay.proofs.files.load.Lts as lts
-use Rattle.libc.proofs.close.Reads as close-reads
-use Rattle.os.proofs.errno.Reads as errno-reads
-use Rattle.os.proofs.fail.Reads as fail-reads
-use Rattle.os.proofs.open_read.Reads as open-read-reads
-use Rattle.replay.proofs.files.read_all.Reads as read-all-reads
 
 open-read-requires : tie.Need-open-read-requires
 open-read-requires c κs = search needs

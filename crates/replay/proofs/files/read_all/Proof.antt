@@ -6,9 +6,6 @@ use mathlib.Core.Path.{_≡_}
 use Prim.Native.Nat.{_≤_, _-_}
 use Rattle.replay.proofs.files.read_all.Statement.{statement}
 use Rattle.replay.proofs.files.read_all.Tie as tie
-use Rattle.replay.proofs.files.read_all.Reads as reads
-use Rattle.replay.proofs.files.read_all.Lts as lts
-use Rattle.replay.proofs.files.read_some.Reads as read-some-reads
 
 abbrev Inv-loop : tie.InvT-loop
 Inv-loop fd buf₀ n₀ buf n = (n ≤ length buf) × (length buf ≡ length buf₀)

@@ -3,9 +3,6 @@ use native.Mathlib.Omega.{arith}
 use borrow.Author.Needs.{needs}
 use Rattle.replay.proofs.files.trace.Statement.{statement}
 use Rattle.replay.proofs.files.trace.Tie as tie
-use Rattle.replay.proofs.files.trace.Reads as reads
-use Rattle.replay.proofs.files.trace.Lts as lts
-use Rattle.replay.proofs.files.load.Reads as load-reads
 
 slice-aggregate-load : tie.Need-slice-aggregate-load
 slice-aggregate-load c = search needs

@@ -2,10 +2,6 @@ use Rattle.law.specs.Choice.{via}
 use borrow.Author.Needs.{needs}
 use Rattle.text.proofs.buses.buses_after.Statement.{statement}
 use Rattle.text.proofs.buses.buses_after.Tie as tie
-use Rattle.text.proofs.buses.buses_after.Reads as reads
-use Rattle.text.proofs.buses.buses_after.Lts as lts
-use Rattle.text.proofs.buses.eeprom_bus.Reads as eeprom-bus-reads
-use Rattle.text.proofs.buses.flash_bus.Reads as flash-bus-reads
 
 enum-known-e : tie.Need-enum-known-e
 enum-known-e c = search needs

@@ -1,8 +1,6 @@
 use borrow.Author.Needs.{needs}
 use Rattle.text.proofs.buses.eeprom_bus.Statement.{statement}
 use Rattle.text.proofs.buses.eeprom_bus.Tie as tie
-use Rattle.text.proofs.buses.eeprom_bus.Reads as reads
-use Rattle.text.proofs.buses.eeprom_bus.Lts as lts
 
 enum-told : tie.Need-enum-told
 enum-told c = search needs

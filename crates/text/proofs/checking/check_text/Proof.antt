@@ -8,12 +8,6 @@ use Rattle.line.proofs.Apart.{tells-board, tells-record}
 use Rattle.text.proofs.Standing.{So, so-start, got-board-place, got-record-place, so-bad, so-back, so-impossible, so-more, so-end, no-board}
 use Rattle.text.proofs.checking.check_text.Statement.{statement}
 use Rattle.text.proofs.checking.check_text.Tie as tie
-use Rattle.text.proofs.checking.check_text.Reads as reads
-use Rattle.text.proofs.checking.check_text.Lts as lts
-use Rattle.line.proofs.read_board.Reads as read-board-reads
-use Rattle.line.proofs.read_record.Reads as read-record-reads
-use Rattle.text.proofs.buses.all_closed.Reads as all-closed-reads
-use Rattle.text.proofs.buses.buses_after.Reads as buses-after-reads
 
 abbrev Inv-loop : tie.InvT-loop
 Inv-loop text board first at₀ number₀ last₀ buses₀ at number last buses = (at ≤ length text) × (number ≤ at) × So text board at number last buses

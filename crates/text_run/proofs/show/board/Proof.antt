@@ -4,10 +4,6 @@ use mathlib.Core.Path.{sym}
 use borrow.Author.Needs.{needs}
 use Rattle.text_run.proofs.show.board.Statement.{statement}
 use Rattle.text_run.proofs.show.board.Tie as tie
-use Rattle.text_run.proofs.show.board.Reads as reads
-use Rattle.text_run.proofs.show.board.Lts as lts
-use Rattle.line.proofs.write_board.Reads as write-board-reads
-use Rattle.text_run.proofs.show.print_written.Reads as print-written-reads
 
 slice-aggregate-out : tie.Need-slice-aggregate-out
 slice-aggregate-out c = search needs

@@ -5,9 +5,6 @@ use mathlib.Core.Path.{sym}
 use borrow.Author.Needs.{needs}
 use Rattle.text_run.proofs.show.print_front.Statement.{statement}
 use Rattle.text_run.proofs.show.print_front.Tie as tie
-use Rattle.text_run.proofs.show.print_front.Reads as reads
-use Rattle.text_run.proofs.show.print_front.Lts as lts
-use Rattle.io.proofs.write_all.Reads as write-all-reads
 
 slice-aggregate-write-all : tie.Need-slice-aggregate-write-all
 slice-aggregate-write-all c = sym (length-take-le (c .before .before .before .args .n) (now (c .before .before .before .args .bytes)) (omega arith))

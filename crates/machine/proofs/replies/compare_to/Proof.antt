@@ -1,6 +1,6 @@
 use borrow.Author.Needs.{needs}
-use Rattle.machine.proofs.replies.compare_flash.Statement.{statement}
-use Rattle.machine.proofs.replies.compare_flash.Tie as tie
+use Rattle.machine.proofs.replies.compare_to.Statement.{statement}
+use Rattle.machine.proofs.replies.compare_to.Tie as tie
 
 enum-told : tie.Need-enum-told
 enum-told c = search needs
@@ -53,8 +53,8 @@ returns-7 c = search needs
 returns-8 : tie.Need-returns-8
 returns-8 c = search needs
 
-pub compare-flash-spec : {M : Type 1} → statement M
-compare-flash-spec =
+pub compare-to-spec : {M : Type 1} → statement M
+compare-to-spec =
     tie.close
     (tie.spec
     enum-told
