@@ -22,12 +22,13 @@ abbrev pub buffersOf : List ℕ → List ℕ → List ℕ → List ℕ → List 
 buffersOf fv fm ev em replies result =
     record { images = imagesOf fv fm ev em; replies = replies; result = result }
 
--- refusal 1: 'a bit is set in both'. Here none is, place by place
+-- refusal 1: 'a bit is set in both', value and mask. Here none is, place by place
 unfoldable pub clear : List ℕ → List ℕ → Bool
 clear [] ms = true
 clear (v ∷ vs) [] = true
 clear (v ∷ vs) (m ∷ ms) = pick (eqb (bitAnd v m) 0) (clear vs ms) false
 
+-- the same of an image
 abbrev pub isClear : Image → Bool
 isClear i = clear (i .values) (i .masks)
 

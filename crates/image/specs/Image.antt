@@ -16,11 +16,11 @@ pub record Image : Type 0 where
 abbrev pub imageOf : List ℕ → List ℕ → Image
 imageOf values masks = record { values = values; masks = masks }
 
--- how many bytes are kept: an image has its own length
+-- how many bytes are kept, by the values: an image has its own length
 abbrev pub sizeOf : Image → ℕ
 sizeOf i = length (i .values)
 
--- does it have n values and n masks?
+-- a kept byte is a value and a mask: does it have n of both?
 unfoldable pub spans : ℕ → Image → Bool
 spans n i = pick (eqb (length (i .values)) n) (eqb (length (i .masks)) n) false
 
@@ -48,7 +48,7 @@ onImage rule i = pick (spans (sizeOf i) i) (eachPlace rule i) i
 abbrev pub inPage : ℕ → ℕ → (ℕ → Cell → Cell) → ℕ → Cell → Cell
 inPage size number rule k c = pick (eqb (k / size) number) (rule (k % size) c) c
 
--- page `number` alone; a number past the last page changes nothing
+-- page `number` of such an image; a number past its last whole page changes nothing
 unfoldable pub onPage : ℕ → ℕ → (ℕ → Cell → Cell) → Image → Image
 onPage size number rule i = pick (ltb number (sizeOf i / size)) (onImage (inPage size number rule) i) i
 

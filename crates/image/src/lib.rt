@@ -144,7 +144,7 @@ fn changed(how: Change, q: usize, c: Cell, d: u8) -> Cell
     }
 }
 
-// A page of an image, if the image fits and has that page. The page is as long as its data.
+// A page of an image, if the image has as many masks as values, and that page. The page is as long as its data.
 fn change_page(values: &mut [u8], masks: &mut [u8], how: Change, number: usize, bytes: &[u8])
     requires { ⌜ (0 < length (now bytes)) × (length (now bytes) ≤ flashPage) ⌝ }
     ensures { λ _. ⌜ imageOf (now (values .exit)) (now (masks .exit)) ≡ onPage (length (now (bytes .entry))) number (changedPlace how (now (bytes .entry))) (imageOf (now (values .entry)) (now (masks .entry))) ⌝ }
@@ -178,7 +178,7 @@ fn change_places(values: &mut [u8], masks: &mut [u8], how: Change, number: usize
     }
 }
 
-// Every kept byte of an image that fits is c.
+// Every kept byte of an image with as many masks as values is c.
 fn fill_both(values: &mut [u8], masks: &mut [u8], c: Cell)
     ensures { λ _. ⌜ imageOf (now (values .exit)) (now (masks .exit)) ≡ onImage (λ k b. c) (imageOf (now (values .entry)) (now (masks .entry))) ⌝ }
 {

@@ -65,7 +65,7 @@ abbrev pub reached : FlashStatus → ℕ → Bool
 reached Lost watched = true
 reached (Known s) watched = not (sectorLocked s watched)
 
--- of what is kept, by what becomes of a page and of the whole sector: outside the watched one nothing changes; WRSR changes no byte
+-- what a cycle reaches of what is kept, with a rule for a page and its data and one for a whole sector: outside the watched sector nothing changes; WRSR changes no byte
 abbrev pub flashBy : (ℕ → List ℕ → Image → Image) → (Image → Image) → ℕ → FlashCycle → List ℕ → FlashStatus → Image → Image
 flashBy programmed erased watched flash-cycle.None page status i = i
 flashBy programmed erased watched (flash-cycle.Program n) page status i = pick (eqb (sectorOfPage n) watched) (programmed (inSector n) page i) i
@@ -73,13 +73,13 @@ flashBy programmed erased watched (flash-cycle.SectorErase sector) page status i
 flashBy programmed erased watched flash-cycle.ChipErase page status i = pick (reached status watched) (erased i) i
 flashBy programmed erased watched (flash-cycle.WriteStatus bits) page status i = i
 
--- whole at `end`, cut at `off`
+-- at `end` the rules of a whole cycle, at `off` those of a cut one
 unfoldable pub flashAfter : Stroke → ℕ → Flash → Image → Image
 flashAfter Nothing watched f i = i
 flashAfter Whole watched f i = flashBy programPage eraseAll watched (f .cycle) (f .page) (f .status) i
 flashAfter Cut watched f i = flashBy cutProgramPage cutEraseAll watched (f .cycle) (f .page) (f .status) i
 
--- the EEPROM's bytes are all kept
+-- the EEPROM's bytes are all kept: a rule for the page and the places that were sent
 abbrev pub eepromBy : (Sent → Image → Image) → EepromCycle → Image → Image
 eepromBy stored eeprom-cycle.None i = i
 eepromBy stored (eeprom-cycle.Write s) i = stored s i

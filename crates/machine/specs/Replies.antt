@@ -29,6 +29,7 @@ delivered i skeleton.Starts = reply.Starts
 delivered i skeleton.Ends = reply.Ends
 delivered i skeleton.NoCycle = reply.NoCycle
 
+-- what was recorded is the same, or it is not
 abbrev pub agreesIf : Bool → Match
 agreesIf same = pick same Agrees Disagrees
 
@@ -47,7 +48,7 @@ comparedTo seen ack lack reply.Starts = Nothing
 comparedTo seen ack lack reply.Ends = Nothing
 comparedTo seen ack lack reply.NoCycle = Nothing
 
--- a flash record has SO
+-- a flash record has SO, and no acknowledge bit
 abbrev pub flashSeen : FlashEvent → Reply → Match
 flashSeen flash-event.Select r = Nothing
 flashSeen (flash-event.Byte si so) r = comparedTo so Nothing Nothing r
