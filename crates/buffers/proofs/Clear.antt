@@ -11,7 +11,8 @@ use lib.Bits.{bitAnd, and-zero-l, and-zero-r}
 use lib.Dec.{eqb}
 use lib.ListN.{length, getD, drop, drop-of-length-le}
 use lib.Seq.{drop-cons}
-use Rattle.law.specs.Choice.{pick, both}
+use Rattle.law.specs.Choice.{both}
+use Rattle.law.specs.Words.{pick}
 use Rattle.cell.specs.Rules.{Disjoint}
 use Rattle.image.specs.Image.{Image, Clean}
 use Rattle.buffers.specs.Buffers.{clear}

@@ -4,7 +4,8 @@ use mathlib.Core.Bool.{Bool, true, false}
 use borrow.Author.Tests.{eq-eqb, eqb-true}
 use lib.Dec.{eqb}
 use lib.ListN.{length}
-use Rattle.law.specs.Choice.{pick, both}
+use Rattle.law.specs.Choice.{both}
+use Rattle.law.specs.Words.{pick}
 use Rattle.record.specs.declared.Chip.{Chip}
 use Rattle.image.specs.Image.{spans}
 use Rattle.image.specs.Images.{imageAt, everyChip, keptBytes, Kept, AllClean}

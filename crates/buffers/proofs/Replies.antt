@@ -10,7 +10,7 @@ use Rattle.record.specs.declared.Reply.{Reply}
 use Rattle.record.specs.declared.Match.{Match}
 use Rattle.record.specs.Replies.{replyKind, replyValue, replyMask, matchNumber, replyBytes}
 use Rattle.record.specs.Lengths.{repliesLength, replyPlaces}
-use Rattle.buffers.specs.Buffers.{repliesWith}
+use Rattle.buffers.specs.Put.{repliesWith}
 
 pub reply-put : (number : ℕ) (four old : List ℕ) → number < replyPlaces → length old ≡ repliesLength → repliesWith number four old ≡ sets old (4 * number) four
 unfolding repliesWith

@@ -1,13 +1,12 @@
--- The lent buffers: when they fit, what the result holds, and how the replies stand (document 01, 'Replies and stopping').
-use Prim.Native.Nat.{ℕ, _*_, _/_, _%_}
+-- Believed: The lent buffers: when they fit, what the result holds, and how the replies stand (document 01, 'Replies and stopping').
+use Prim.Native.Nat.{ℕ, _/_, _%_}
 use mathlib.Core.Bool.{Bool, true, false}
 use mathlib.Core.List.{List, [], _∷_, _++_}
 use lib.Bits.{bitAnd}
-use lib.Dec.{eqb, ltb}
+use lib.Dec.{eqb}
 use lib.ListN.{length}
-use lib.Seq.{sets}
-use Rattle.law.specs.Choice.{pick}
-use Rattle.record.specs.Lengths.{repliesLength, resultLength, replyPlaces}
+use Rattle.law.specs.Words.{pick}
+use Rattle.record.specs.Lengths.{repliesLength, resultLength}
 use Rattle.image.specs.Image.{Image, spans}
 use Rattle.image.specs.Images.{Images, imagesOf, everyChip, imageAt, keptBytes}
 
@@ -51,8 +50,3 @@ resultBytes answer number count = word answer ++ (word number ++ word count)
 -- 'with a wrong length nothing is written there'
 unfoldable pub resultAfter : ℕ → ℕ → ℕ → List ℕ → List ℕ
 resultAfter answer number count old = pick (eqb (length old) resultLength) (resultBytes answer number count) old
-
--- the four bytes of record `number`, counted from 0, put at their place; one that has no place, and replies of another length, change nothing
-unfoldable pub repliesWith : ℕ → List ℕ → List ℕ → List ℕ
-repliesWith number four old =
-    pick (ltb number replyPlaces) (pick (eqb (length old) repliesLength) (sets old (4 * number) four) old) old

@@ -18,9 +18,10 @@ use Rattle.image.specs.Images.{Images}
 use Rattle.machine.specs.Replies.{compared}
 use Rattle.machine.specs.Machine.{machineOf, onMachine, playOn, saysOn}
 use Rattle.record.specs.Lengths.{repliesLength, replyPlaces}
-use Rattle.buffers.specs.Buffers.{repliesWith}
+use Rattle.buffers.specs.Put.{repliesWith}
 use Rattle.buffers.proofs.Replies.{reply-next}
-use Rattle.call.specs.Play.{twos, replyLine, Desk, deskOf, stepDesk, runDesk}
+use Rattle.call.specs.Play.{twos, replyLine}
+use Rattle.call.specs.Steps.{Desk, deskOf, stepDesk, runDesk}
 use Rattle.call.specs.Replay.{replyLines, countTwos}
 
 -- a match counts one at the most

@@ -1,4 +1,4 @@
--- What the call answers and leaves (document 01, 'Replies and stopping', the table and what follows it).
+-- Believed: What the call answers and leaves (document 01, 'Replies and stopping', the table and what follows it).
 use mathlib.Core.Path.{_≡_}
 use mathlib.Core.Bool.{true, false}
 use mathlib.Core.Logic.{_⊎_}
@@ -6,7 +6,7 @@ use mathlib.Core.List.{List, [], _∷_, _++_}
 use Prim.Native.Nat.{ℕ, _+_, _-_}
 use lib.Dec.{eqb, ltb}
 use lib.ListN.{length, replicate}
-use Rattle.law.specs.Choice.{pick}
+use Rattle.law.specs.Words.{pick}
 use Rattle.meaning.specs.Meaning.{Reason, crowded, differ, lost, Outcome, Means, before}
 use Rattle.meaning.specs.Meaning as meaning
 use Rattle.meaning.specs.Listing.{shownAt}

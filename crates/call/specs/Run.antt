@@ -10,7 +10,6 @@ use Rattle.record.specs.declared.Board.{Board}
 use Rattle.record.specs.declared.Record.{Record}
 use Rattle.record.specs.declared.Reply.{Reply}
 use Rattle.record.specs.declared.Answer.{Answer}
-use Rattle.record.specs.declared.Answer.the-variants.{Settled, Crowded, OrdersDiffer, StatusLost}
 use Rattle.record.specs.Answers.{answerNumber}
 use Rattle.image.specs.Images.{Images}
 use Rattle.orders.specs.declared.Verdict.{Verdict}
@@ -30,13 +29,6 @@ endedWith a t count x replies =
 pub record Runs (text : List ℕ) (first : ℕ) (b : Board) (x : Images) (replies : List ℕ) (e : Ended) : Type 0 where
   pub runs : (rs : List Record) → Readable text b rs → first ≡ length (spelledBoard b) → replies ≡ replicate repliesLength 0 →
       (z : meaning.Answer Machine Reply) × Means (onMachine b) rs (machineAtStart b x) z × (e ≡ shown b rs z)
-
--- a verdict as an answer; one that passes stops nothing
-abbrev pub stopOf : Verdict → Answer
-stopOf verdict.Crowded = Crowded
-stopOf verdict.Differ = OrdersDiffer
-stopOf verdict.Lost = StatusLost
-stopOf verdict.Passes = Settled
 
 -- whether the replay goes on
 abbrev pub goesOn : Verdict → Bool

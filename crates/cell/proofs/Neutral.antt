@@ -6,7 +6,8 @@ use native.Mathlib.Nat.{mod-eq-of-lt}
 use native.Mathlib.Omega.{arith}
 use lib.Bits.{bitAnd, bitOr, and-mask, and-zero-r, or-zero-r, and-le-l, or-lt}
 use Rattle.cell.specs.declared.Cell.{Cell}
-use Rattle.cell.specs.Rules.{programmedCell, cutCell, erasedCell, doubtfulCell, storedCell, not8, ByteCell}
+use Rattle.cell.specs.Rules.{programmedCell, cutCell, erasedCell, doubtfulCell, storedCell, not8}
+use Rattle.cell.specs.Bytes.{ByteCell}
 
 -- a byte AND ff
 and-ff : (x : ℕ) → x < 256 → bitAnd x 255 ≡ x

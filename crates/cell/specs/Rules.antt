@@ -1,5 +1,5 @@
--- What the end of a cycle, and a cut of it, make of one kept byte: value v, mask m, data d (document 01).
-use Prim.Native.Nat.{ℕ, _-_, _<_}
+-- Believed: What the end of a cycle, and a cut of it, make of one kept byte: value v, mask m, data d (document 01).
+use Prim.Native.Nat.{ℕ, _-_}
 use mathlib.Core.Bool.{Bool}
 use mathlib.Core.Path.{_≡_}
 use lib.Bits.{bitAnd, bitOr}
@@ -37,7 +37,3 @@ agreesCell c seen = eqb (bitAnd seen (not8 (c .mask))) (bitAnd (c .value) (not8 
 -- 'Bytes and doubt': a doubtful bit is 0 in the value
 unfoldable pub Disjoint : Cell → Type 0
 Disjoint c = bitAnd (c .value) (c .mask) ≡ 0
-
--- value and mask are bytes
-unfoldable pub ByteCell : Cell → Type 0
-ByteCell c = (c .value < 256) × (c .mask < 256)

@@ -1,2 +1,3 @@
 -- The controls: both chips' and the two lines.
 pub mod Play
+pub mod Sides

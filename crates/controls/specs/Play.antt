@@ -1,4 +1,4 @@
--- One record on the controls: a chip's record goes to that chip, a line record to both.
+-- Believed: One record on the controls: a chip's record goes to that chip, a line record to both.
 use Prim.Native.Nat.{ℕ}
 use mathlib.Core.Bool.{Bool}
 use Rattle.record.specs.declared.Board.{Board}

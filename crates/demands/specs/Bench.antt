@@ -1,4 +1,4 @@
--- The sentences of the bench sheet of document 01, each about the rules that demand 3 speaks of (`onMachine`): records played one after the other on a board,
+-- Believed: The sentences of the bench sheet of document 01, each about the rules that demand 3 speaks of (`onMachine`): records played one after the other on a board,
 -- from the start, with the lent images x. Cases 11 and 12 say what the demand admits for a trace with stamps.
 use mathlib.Core.Path.{_≡_}
 use mathlib.Core.Bool.{false}
@@ -10,13 +10,10 @@ use Rattle.meaning.specs.Meaning as meaning
 use Rattle.meaning.specs.Listing.{said}
 use Rattle.record.specs.declared.Board.{Board}
 use Rattle.record.specs.declared.Record.{Record}
-use Rattle.record.specs.declared.Event.the-variants as event
-use Rattle.record.specs.declared.FlashEvent.{FlashEvent}
 use Rattle.record.specs.declared.FlashEvent.the-variants as flash
-use Rattle.record.specs.declared.EepromEvent.{EepromEvent}
 use Rattle.record.specs.declared.EepromEvent.the-variants as eeprom
-use Rattle.record.specs.declared.LineEvent.{LineEvent}
 use Rattle.record.specs.declared.LineEvent.the-variants.{SupplyOn, SupplyOff}
+use Rattle.record.specs.Records.{onF, onE, onL}
 use Rattle.record.specs.declared.Reply.{Reply}
 use Rattle.record.specs.declared.Reply.the-variants.{Silent, Byte, Ack, Starts}
 use Rattle.cell.specs.declared.Cell.{Cell}
@@ -33,16 +30,6 @@ boardOf status = record { status = status; sector = 1; address = 0 }
 
 abbrev pub plain : Board
 plain = boardOf 0x00
-
--- a record of a channel
-abbrev pub onF : ℕ → FlashEvent → Record
-onF stamp e = record { stamp = stamp; event = event.Flash e }
-
-abbrev pub onE : ℕ → EepromEvent → Record
-onE stamp e = record { stamp = stamp; event = event.Eeprom e }
-
-abbrev pub onL : ℕ → LineEvent → Record
-onL stamp e = record { stamp = stamp; event = event.Line e }
 
 -- a flash frame that sends these bytes: up to its `des`, and with it
 abbrev pub xs : ℕ → List ℕ → List Record
@@ -174,3 +161,8 @@ Case12 x = Answered (wren 10 ++ (opened 20 (0x02 ∷ (three 0x00000 ++ (0xa5 ∷
 -- ---- the sheet
 abbrev pub sheet : List (Images → Type 0)
 sheet = Case1 ∷ Case2 ∷ Case3 ∷ Case4 ∷ Case5 ∷ Case6 ∷ Case7 ∷ Case8 ∷ Case9 ∷ Case10 ∷ Case11 ∷ Case12 ∷ []
+
+-- all sentences of a list hold
+unfoldable pub AllHold : List (Images → Type 0) → Images → Type 0
+AllHold [] x = Unit {0}
+AllHold (c ∷ cs) x = c x × AllHold cs x

@@ -1,23 +1,29 @@
--- Answers 0, 6, 7 and 8 have exact grounds, of any text and any buffers; with those of FirstBadLine each answer of the call has its own, and there is no other answer.
-use mathlib.Core.Path.{_≡_, ap}
-use mathlib.Core.Bool.{true}
-use mathlib.Core.Logic.{_⊎_, inl, inr, _↔_, ⊎-elim}
+-- Believed: Demands 1 and 2: each answer has its exact ground, and a refusal leaves all else untouched (document 01, 'Replies and stopping', the table).
+-- Said of a text, the buffers x as lent, and any outcome e that the promise of the exported call admits.
+use mathlib.Core.Path.{_≡_}
+use mathlib.Core.Bool.{true, false}
+use mathlib.Core.Logic.{_↔_}
 use mathlib.Core.List.{List}
-use Prim.Native.Nat.{ℕ, _≤_}
-use native.Mathlib.Omega.{arith}
+use Prim.Native.Nat.{ℕ, _≤_, _<_}
 use lib.ListN.{length}
 use Rattle.meaning.specs.Meaning.{Reason, Passes, Earliest}
-use Rattle.record.specs.declared.Answer.the-variants.{BadBuffers, TooLong}
+use Rattle.record.specs.declared.Answer.{Answer}
+use Rattle.record.specs.declared.Answer.the-variants.{BadLine, BackInTime, Impossible}
 use Rattle.record.specs.declared.Board.{Board}
 use Rattle.record.specs.declared.Record.{Record}
 use Rattle.record.specs.Answers.{answerNumber}
+use Rattle.record.specs.Lengths.{resultLength}
+use Rattle.field.specs.Decimal.{largest}
 use Rattle.machine.specs.Machine.{machineAtStart, onMachine}
-use Rattle.text.specs.Texts.{textLimit, Readable}
+use Rattle.text.specs.Texts.{textLimit, Readable, Refused}
 use Rattle.buffers.specs.Buffers.{Buffers, fit}
-use Rattle.call.specs.Replay.{Ended, reasonAnswer, Replays}
-use Rattle.demands.specs.Ways.{Way, unfit, long, bad, played, way, refused-line, line-number, reason-number, shown-answer}
-use Rattle.demands.specs.FirstBadLine.{number-of}
-use Rattle.demands.specs.Stops.{stop-answer, settled-means}
+use Rattle.call.specs.Replay.{Ended, endedAs, refusedAs, reasonAnswer}
+
+-- the refusals that name a line
+pub data OfLine : Answer → Type 0 where
+  three : OfLine BadLine
+  four : OfLine BackInTime
+  five : OfLine Impossible
 
 -- the buffers fit, the text is within the limit, and it is the spelling of b and rs
 pub record Taken (text : List ℕ) (x : Buffers) (b : Board) (rs : List Record) : Type 0 where
@@ -25,41 +31,31 @@ pub record Taken (text : List ℕ) (x : Buffers) (b : Board) (rs : List Record) 
   pub within : length text ≤ textLimit
   pub readable : Readable text b rs
 
-module _ {text : List ℕ} {x : Buffers} {e : Ended} where
-  taken : Way text x e → (e .answer ≡ 0) ⊎ (6 ≤ e .answer) → (b : Board) × (rs : List Record) × Taken text x b rs
-  taken (unfit f q) h = let k = number-of x BadBuffers 0 q in ⊎-elim (λ s. absurd (omega arith)) (λ s. absurd (omega arith)) h
-  taken (long f l q) h = let k = number-of x TooLong 0 q in ⊎-elim (λ s. absurd (omega arith)) (λ s. absurd (omega arith)) h
-  taken (bad f l a n w q) h =
-      let k = number-of x a n q in
-      let r = line-number (refused-line w) in
-      ⊎-elim (λ s. absurd (omega arith)) (λ s. absurd (omega arith)) h
-  taken (played f l b rs w z m q) h = (b, rs, record { fits = f; within = l; readable = w })
-
-  small : Way text x e → e .answer ≤ 8
-  small (unfit f q) = omega (arith, number-of x BadBuffers 0 q)
-  small (long f l q) = omega (arith, number-of x TooLong 0 q)
-  small (bad f l a n w q) = omega (arith, number-of x a n q, line-number (refused-line w))
-  small (played f l b rs w z m q) = let k = ap (λ (y : Ended). y .answer) q in ⊎-elim (λ s. omega arith) (λ s. omega arith) (shown-answer b rs z)
-
-module _ {text : List ℕ} {x : Buffers} {e : Ended} (p : Replays text x e) where
+pub record Grounds (text : List ℕ) (x : Buffers) (e : Ended) : Type 0 where
+  -- 1 exactly where the buffers do not fit
+  pub bad-buffers : (e .answer ≡ 1) ↔ (fit x ≡ false)
+  -- 2 exactly where they fit and the text is over 65,536
+  pub too-long : (e .answer ≡ 2) ↔ ((fit x ≡ true) × (textLimit < length text))
+  -- 3, 4, 5 exactly where neither holds and the first bad line is one of that kind
+  pub wrong-form : (e .answer ≡ 3) ↔ ((fit x ≡ true) × (length text ≤ textLimit) × (n : ℕ) × Refused text BadLine n)
+  pub back-in-time : (e .answer ≡ 4) ↔ ((fit x ≡ true) × (length text ≤ textLimit) × (n : ℕ) × Refused text BackInTime n)
+  pub impossible : (e .answer ≡ 5) ↔ ((fit x ≡ true) × (length text ≤ textLimit) × (n : ℕ) × Refused text Impossible n)
+  -- the line that the result names is the first bad line, and no other
+  pub first-bad-line : fit x ≡ true → length text ≤ textLimit → (a : Answer) → OfLine a → (n : ℕ) → ((n ≤ largest) × (e ≡ refusedAs a n x)) ↔ Refused text a n
   -- 0 exactly for a text that is taken and in which no stamp has a reason
-  pub settled-grounds : (e .answer ≡ 0) ↔ ((b : Board) × (rs : List Record) × Taken text x b rs × ((t : ℕ) → Passes (onMachine b) rs (machineAtStart b (x .images)) t))
-  settled-grounds = (
-    (λ h. let k = taken (way p) (inl h) in (k .0, k .1, k .2, settled-means p (k .2 .fits) (k .2 .within) (k .2 .readable) .0 h)),
-    λ h. settled-means p (h .2 .fits) (h .2 .within) (h .2 .readable) .1 (h .3),
-  )
-
+  pub settled : (e .answer ≡ 0) ↔ ((b : Board) × (rs : List Record) × Taken text x b rs × ((t : ℕ) → Passes (onMachine b) rs (machineAtStart b (x .images)) t))
   -- 6, 7, 8 exactly for a text that is taken and in which that reason is the first at the earliest stamp that has one
-  pub stop-grounds : (n : Reason) → (e .answer ≡ answerNumber (reasonAnswer n)) ↔ ((b : Board) × (rs : List Record) × Taken text x b rs × (t : ℕ) × Earliest (onMachine b) rs (machineAtStart b (x .images)) n t)
-  stop-grounds n = (
-    (λ h.
-        let s = reason-number n in
-        let k = taken (way p) (inr (omega arith)) in
-        let t = stop-answer p (k .2 .fits) (k .2 .within) (k .2 .readable) n .0 h in
-        (k .0, k .1, k .2, t .0, t .1)),
-    λ h. stop-answer p (h .2 .fits) (h .2 .within) (h .2 .readable) n .1 (h .3, h .4),
-  )
-
+  pub stopped : (n : Reason) → (e .answer ≡ answerNumber (reasonAnswer n)) ↔ ((b : Board) × (rs : List Record) × Taken text x b rs × (t : ℕ) × Earliest (onMachine b) rs (machineAtStart b (x .images)) n t)
   -- there is no other answer
   pub no-other : e .answer ≤ 8
-  no-other = small (way p)
+
+-- the images with their masks and the replies are as they were lent
+pub record Untouched (x : Buffers) (e : Ended) : Type 0 where
+  pub images : e .buffers .images ≡ x .images
+  pub replies : e .buffers .replies ≡ x .replies
+
+pub record Refusals (x : Buffers) (e : Ended) : Type 0 where
+  -- 1 to 5 leave all untouched but the result
+  pub untouched : 1 ≤ e .answer → e .answer ≤ 5 → Untouched x e
+  -- 'with a wrong length nothing is written there': nothing is written anywhere
+  pub wrong-result-length : (length (x .result) ≡ resultLength → ⊥) → e ≡ endedAs 1 x

@@ -1,22 +1,10 @@
--- What the caller of the replay gets: the demands as theorems about the call's promise.
-pub mod Readable
-pub mod Determined
-pub mod Result
-pub mod Ways
-pub mod FirstBadLine
-pub mod Telling
-pub mod Stops
-pub mod Grounds
-pub mod Replies
-pub mod Shown
-pub mod Count
-pub mod Disjoint
-pub mod Rewritten
-pub mod OrderOfLines
-pub mod OneStamp
+-- What the caller of the replay gets: the demands as claims about the call's promise.
 pub mod Bench
-pub mod BenchCases
-pub mod BenchSheet
-pub mod Lent
-pub mod FourTexts
+pub mod Worked
+pub mod Grounds
+pub mod Stops
+pub mod Replies
+pub mod Doubt
+pub mod Lines
 pub mod ShutOut
+pub mod Demands

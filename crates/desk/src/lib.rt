@@ -3,16 +3,18 @@
 ghost use mathlib.Core.Path.{_≡_};
 ghost use Prim.Native.Nat.{_+_, _≤_, min};
 ghost use lib.ListN.{length, take, replicate};
-ghost use Rattle.meaning.specs.Sums.{mostInAll};
+ghost use Rattle.meaning.specs.Channels.{mostInAll};
 ghost use Rattle.text.specs.Texts.{textLimit};
 ghost use Rattle.image.specs.Images.{imagesOf, perChip};
 ghost use Rattle.image.specs.View.{viewPlace, viewLength};
 ghost use Rattle.record.specs.Lengths.{repliesLength, resultLength};
 ghost use Rattle.buffers.specs.Buffers.{buffersOf, resultAfter};
 ghost use Rattle.record.specs.Answers.{answerNumber};
-ghost use Rattle.call.specs.Play.{twos, deskOf, stepDesk, runDesk};
+ghost use Rattle.call.specs.Play.{twos};
+ghost use Rattle.call.specs.Steps.{deskOf, stepDesk, runDesk};
 ghost use Rattle.call.specs.Replay.{endedAs, Replays, chipOf};
-ghost use Rattle.call.specs.Run.{endedWith, Runs, stopOf, goesOn};
+ghost use Rattle.call.specs.Run.{endedWith, Runs, goesOn};
+ghost use Rattle.orders.specs.Verdicts.{verdictAnswer};
 use controls::Controls;
 use orders::Verdict;
 use record::Answer;
@@ -129,7 +131,7 @@ struct End {
 }
 
 fn stop_of(v: Verdict) -> Answer
-    ensures { λ r. ⌜ r ≡ stopOf v ⌝ }
+    ensures { λ r. ⌜ r ≡ verdictAnswer v ⌝ }
 {
     match v {
         Verdict::Crowded => Answer::Crowded,

@@ -10,7 +10,8 @@ use lib.Dec.{ltb, eqb}
 use lib.ListN.{getD, length-set, length-replicate, getD-replicate}
 use lib.Seq.{getD-set-other, ext-getD}
 use borrow.Author.Tests.{ltb-true, ltb-false, le-ltb, eqb-false}
-use Rattle.law.specs.Choice.{pick, split, of-both, true-not-false}
+use Rattle.law.specs.Choice.{split, of-both, true-not-false}
+use Rattle.law.specs.Words.{pick}
 use Rattle.page.specs.Geometry.{eepromSize}
 use Rattle.page.specs.Rolling.{sentPlace}
 use Rattle.record.specs.declared.Skeleton.the-variants.{Ack, NoAck, Starts}

@@ -4,7 +4,8 @@ use mathlib.Core.Bool.{Bool, true}
 use mathlib.Core.Path.{_≡_, refl, sym, ap, _∙_}
 use lib.Dec.{eqb}
 use Rattle.law.specs.declared.Numbers.{Numbers}
-use Rattle.law.specs.Choice.{pick, true-not-false}
+use Rattle.law.specs.Choice.{true-not-false}
+use Rattle.law.specs.Words.{pick}
 use Rattle.law.specs.Deciding.{Decides}
 use Rattle.law.specs.Numbers.{by-numbers, flagOf, flag-back}
 use Rattle.eeprom.specs.Same.{frameNumbers, cycleNumbers, counterNumbers}

@@ -6,7 +6,8 @@ use mathlib.Core.Path.{_≡_, refl, sym, subst}
 use mathlib.Core.Logic.{_⊎_, inl, inr}
 use mathlib.Core.List.{List}
 use lib.Dec.{eqb}
-use Rattle.law.specs.Choice.{pick, of-both}
+use Rattle.law.specs.Choice.{of-both}
+use Rattle.law.specs.Words.{pick}
 use Rattle.tied.specs.Control.{Lawful, Cycle, idle, runs, Kind, starts, ends, fetches, plain}
 use Rattle.record.specs.LineRules.{goesOff}
 use Rattle.record.specs.Told.{skeletonKind, Telling}

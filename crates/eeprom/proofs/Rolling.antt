@@ -1,27 +1,21 @@
 -- The place after one in a page of 64, and which places so many data bytes are for.
 -- Assumes nothing.
-use Prim.Native.Nat.{ℕ, _+_, _-_, _*_, _/_, _%_, _<_, _≤_}
+use Prim.Native.Nat.{ℕ, _+_, _-_, _%_, _<_, _≤_}
 use native.Mathlib.Omega.{arith}
-use mathlib.Core.Path.{_≡_}
+use mathlib.Core.Path.{_≡_, ap, _∙_}
 use lib.Dec.{ltb}
 use borrow.Author.Tests.{ltb-true, lt-ltb, le-ltb}
 use Rattle.law.specs.Choice.{split}
 use Rattle.page.specs.Geometry.{eepromSize}
-use Rattle.page.specs.Laws.{rolled-mod}
+use Rattle.page.specs.Laws.{next-is, after-low}
 use Rattle.eeprom.specs.Write.{nextInPage, counted, firstSent}
 
--- ---- the page stays, the low six bits go on
-pub next-is : (p : ℕ) → nextInPage p ≡ p / 64 * 64 + (p % 64 + 1) % 64
-next-is p = rw (rolled-mod 63 (p % 64) (omega arith))
-
-pub next-page : (p : ℕ) → nextInPage p / 64 ≡ p / 64
-next-page p = rw (next-is p) (omega arith)
-
+-- ---- the low six bits go on
 pub next-low : (p : ℕ) → nextInPage p % 64 ≡ (p % 64 + 1) % 64
-next-low p = rw (next-is p) (omega arith)
+next-low p = ap (λ (q : ℕ). q % 64) (next-is 64 (omega arith) p) ∙ after-low 64 (omega arith) p 1
 
 pub next-small : (p : ℕ) → p < eepromSize → nextInPage p < eepromSize
-next-small p h = rw (next-is p) (omega arith)
+next-small p h = rw (next-is 64 (omega arith) p) (omega arith)
 
 -- ---- the count and the first place, by cases
 pub counted-less : (n : ℕ) → n < 64 → counted n ≡ n + 1

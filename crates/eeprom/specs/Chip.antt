@@ -1,4 +1,4 @@
--- The EEPROM's state, and what its rules share (document 01, 'EEPROM rules', 'Bytes and doubt').
+-- Believed: The EEPROM's state, and what its rules share (document 01, 'EEPROM rules', 'Bytes and doubt').
 use Prim.Native.Nat.{ℕ}
 use mathlib.Core.Bool.{Bool, true, false}
 use mathlib.Core.List.{List}

@@ -1,8 +1,8 @@
--- The bytes of a frame with the supply on (document 01, 'EEPROM rules').
+-- Believed: The bytes of a frame with the supply on (document 01, 'EEPROM rules').
 use Prim.Native.Nat.{ℕ, _+_, _-_, _*_, _/_, _%_}
 use mathlib.Core.Bool.{Bool, true, false}
 use lib.Dec.{eqb}
-use Rattle.law.specs.Choice.{pick}
+use Rattle.law.specs.Words.{pick}
 use Rattle.page.specs.Geometry.{eepromSize}
 use Rattle.page.specs.Rolling.{rolledIn}
 use Rattle.record.specs.declared.Skeleton.{Skeleton}

@@ -1,8 +1,8 @@
--- One record of channel E, and what a line record does to the chip (document 01, 'EEPROM rules', 'Supply').
+-- Believed: One record of channel E, and what a line record does to the chip (document 01, 'EEPROM rules', 'Supply').
 use Prim.Native.Nat.{ℕ}
 use mathlib.Core.Bool.{Bool}
 use lib.Dec.{eqb}
-use Rattle.law.specs.Choice.{pick}
+use Rattle.law.specs.Words.{pick}
 use Rattle.record.specs.LineRules.{goesOff}
 use Rattle.record.specs.declared.Skeleton.the-variants.{Silent, Starts, Ends, NoCycle}
 use Rattle.record.specs.declared.EepromEvent.{EepromEvent}

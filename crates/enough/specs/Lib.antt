@@ -1,6 +1,2 @@
--- The controls decide.
-pub mod Sides
-pub mod Effects
-pub mod OneChip
-pub mod Whole
+-- What is claimed of trying the controls alone.
 pub mod Enough

@@ -12,11 +12,13 @@ use lib.Arith.{digits-div, digits-mod}
 use lib.ListN.{length, drop, getD, length-append, drop-of-length-le}
 use lib.Seq.{drop-cons}
 use borrow.Author.Tests.{lt-ltb, le-ltb, eq-eqb, ne-eqb, eqb-true, eqb-false}
-use Rattle.law.specs.Choice.{pick, split, lt-or-le}
+use Rattle.law.specs.Choice.{split, lt-or-le}
+use Rattle.law.specs.Words.{pick}
 use Rattle.field.specs.declared.decimal.Pushed.{Pushed}
 use Rattle.field.specs.declared.decimal.Pushed.the-variants.{Value, Bad}
 use Rattle.field.specs.declared.decimal.ReadDecimal.{ReadDecimal}
-use Rattle.field.specs.Decimal.{largest, digitOn, pushOf, digitsIn, decimal, decimalField, ReadsDecimal}
+use Rattle.field.specs.Decimal.{largest, digitsIn, decimal, decimalField}
+use Rattle.field.specs.Readers.{digitOn, pushOf, ReadsDecimal}
 use Rattle.field.specs.Ends.{tabByte, tab}
 use Rattle.field.specs.Reads.{Stands}
 

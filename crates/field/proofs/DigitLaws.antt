@@ -7,7 +7,8 @@ use mathlib.Core.List.{List}
 use lib.ListN.{length, getD}
 use Rattle.field.specs.declared.digit.ReadDigit.{ReadDigit}
 use Rattle.field.specs.Reads.{Stands}
-use Rattle.field.specs.Digit.{digitField, DigitOk, ReadsDigit}
+use Rattle.field.specs.Digit.{digitField, DigitOk}
+use Rattle.field.specs.Readers.{ReadsDigit}
 use Rattle.field.proofs.Reading.{stands-getD, stands-length, stands-of, none, one}
 
 module _ (text : List ℕ) (at low high : ℕ) where

@@ -13,7 +13,8 @@ use Rattle.field.specs.declared.hex.Nibble.{Nibble}
 use Rattle.field.specs.declared.hex.Nibble.the-variants.{Value, Bad}
 use Rattle.field.specs.declared.hex.ReadHex.{ReadHex}
 use Rattle.law.specs.Choice.{pick-says, lt-or-le}
-use Rattle.field.specs.Hex.{hexDigit, hexField, nibbleOf, ReadsHex}
+use Rattle.field.specs.Hex.{hexDigit, hexField}
+use Rattle.field.specs.Readers.{nibbleOf, ReadsHex}
 use Rattle.field.specs.Reads.{Stands}
 use Rattle.field.proofs.Reading.{stands-getD, stands-length, stands-of, none, one}
 

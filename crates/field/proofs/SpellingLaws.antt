@@ -14,7 +14,8 @@ use Rattle.law.specs.Choice.{lt-or-le}
 use Rattle.field.specs.declared.spelling.Spelling.{Spelling}
 use Rattle.field.specs.Decimal.{decimal, largest}
 use Rattle.field.specs.Hex.{hexDigit, hexField}
-use Rattle.field.specs.Spelling.{held, room, putByte, putAll}
+use Rattle.field.specs.Spelling.{held, putByte, putAll}
+use Rattle.field.specs.Room.{room}
 use Rattle.field.proofs.DecimalLaws.{decimal-digit, decimal-more}
 
 -- ---- one after another

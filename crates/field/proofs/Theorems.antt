@@ -6,10 +6,8 @@ use Rattle.field.specs.declared.decimal.ReadDecimal.{ReadDecimal}
 use Rattle.field.specs.declared.hex.ReadHex.{ReadHex}
 use Rattle.field.specs.declared.word.ReadWord.{ReadWord}
 use Rattle.field.specs.declared.digit.ReadDigit.{ReadDigit}
-use Rattle.field.specs.Decimal.{ReadsDecimal}
-use Rattle.field.specs.Hex.{ReadsHex}
+use Rattle.field.specs.Readers.{ReadsDecimal, ReadsHex, ReadsDigit}
 use Rattle.field.specs.Word.{ReadsWord}
-use Rattle.field.specs.Digit.{ReadsDigit}
 use Rattle.field.proofs.Reading.{determined}
 use Rattle.field.proofs.Answers.{tells-decimal, tells-hex, tells-word, tells-digit}
 

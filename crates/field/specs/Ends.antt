@@ -1,4 +1,4 @@
--- The bytes that end fields (document 01, 'The trace': 'Each line ends with LF; fields are parted by one tab').
+-- Believed: The bytes that end fields (document 01, 'The trace': 'Each line ends with LF; fields are parted by one tab').
 use Prim.Native.Nat.{ℕ}
 use mathlib.Core.List.{List, [], _∷_}
 

@@ -2,7 +2,9 @@
 pub mod Ends
 pub mod Reads
 pub mod Decimal
+pub mod Readers
 pub mod Hex
 pub mod Word
 pub mod Digit
 pub mod Spelling
+pub mod Room

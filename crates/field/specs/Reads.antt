@@ -1,4 +1,4 @@
--- What it is to read something at a place of a text: the spelling alone says it, no parser does.
+-- Believed: What it is to read something at a place of a text: the spelling alone says it, no parser does.
 use Prim.Native.Nat.{ℕ, _+_}
 use mathlib.Core.Path.{_≡_}
 use mathlib.Core.Logic.{_⊎_}

@@ -3,15 +3,13 @@ use Prim.Native.Nat.{ℕ, _+_}
 use mathlib.Core.List.{List, [], _∷_}
 use lib.Dec.{leb}
 use lib.ListN.{take, set, replicate}
-use Rattle.law.specs.Choice.{pick}
+use Rattle.law.specs.Words.{pick}
 use Rattle.field.specs.declared.spelling.Spelling.{Spelling}
+use Rattle.field.specs.Room.{room}
 
 -- the bytes that it holds
 abbrev pub held : Spelling → List ℕ
 held s = take (s .len) (s .bytes)
-
-abbrev pub room : ℕ
-room = 32
 
 abbrev pub noBytes : Spelling
 noBytes = record { bytes = replicate room 0; len = 0 }

@@ -1,7 +1,8 @@
 // A decimal from 0 to 4,294,967,295 with no leading zero, and the tab that ends it.
 ghost use mathlib.Core.Path.{_≡_};
 ghost use Prim.Native.Nat.{_≤_};
-ghost use Rattle.field.specs.Decimal.{digitOn, pushOf, ReadsDecimal, largest};
+ghost use Rattle.field.specs.Decimal.{largest};
+ghost use Rattle.field.specs.Readers.{digitOn, pushOf, ReadsDecimal};
 use crate::Cursor;
 
 pub enum ReadDecimal {

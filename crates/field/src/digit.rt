@@ -1,5 +1,5 @@
 // One digit in a range, with no end byte of its own.
-ghost use Rattle.field.specs.Digit.{ReadsDigit};
+ghost use Rattle.field.specs.Readers.{ReadsDigit};
 use crate::Cursor;
 
 pub enum ReadDigit {

@@ -1,6 +1,6 @@
 // Two lower-case hex digits.
 ghost use mathlib.Core.Path.{_≡_};
-ghost use Rattle.field.specs.Hex.{nibbleOf, ReadsHex};
+ghost use Rattle.field.specs.Readers.{nibbleOf, ReadsHex};
 use crate::Cursor;
 
 pub enum ReadHex {

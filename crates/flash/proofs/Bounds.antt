@@ -8,7 +8,8 @@ use mathlib.Core.List.{List}
 use lib.ListN.{length, length-set}
 use lib.Dec.{ltb, leb, eqb}
 use borrow.Author.Tests.{ltb-true}
-use Rattle.law.specs.Choice.{pick, split, true-not-false}
+use Rattle.law.specs.Choice.{split, true-not-false}
+use Rattle.law.specs.Words.{pick}
 use Rattle.record.specs.declared.FlashEvent.{FlashEvent}
 use Rattle.record.specs.declared.FlashEvent.the-variants as event
 use Rattle.record.specs.declared.LineEvent.{LineEvent}

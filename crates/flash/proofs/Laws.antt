@@ -8,7 +8,8 @@ use mathlib.Core.Path.{_≡_, refl, sym, ap, subst, _∙_}
 use mathlib.Core.List.{List}
 use mathlib.Core.Logic.{_⊎_, inl, inr}
 use lib.Dec.{ltb, leb, eqb}
-use Rattle.law.specs.Choice.{pick, of-both, true-not-false}
+use Rattle.law.specs.Choice.{of-both, true-not-false}
+use Rattle.law.specs.Words.{pick}
 use Rattle.tied.specs.Control.{Cycle, idle, runs, Kind, starts, ends, fetches, plain, Lawful}
 use Rattle.record.specs.LineRules.{goesOff, lockComesOn}
 use Rattle.record.specs.Told.{skeletonKind, Telling}

@@ -1,4 +1,5 @@
 -- Theorems over the flash's rules.
 pub mod Bounds
 pub mod Worked
+pub mod Written
 pub mod Laws

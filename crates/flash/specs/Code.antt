@@ -1,8 +1,8 @@
--- Op-codes, sectors, the lock-out table and the status bits (document 01, 'Flash rules').
+-- Believed: Op-codes, sectors, the lock-out table and the status bits (document 01, 'Flash rules').
 use Prim.Native.Nat.{ℕ, _+_, _*_, _/_, _%_}
 use mathlib.Core.Bool.{Bool, true, false}
 use lib.Dec.{leb, eqb}
-use Rattle.law.specs.Choice.{pick}
+use Rattle.law.specs.Words.{pick}
 use Rattle.page.specs.Geometry.{flashSector, flashSectors}
 use Rattle.flash.specs.declared.Op.the-variants.{WriteEnable, WriteDisable, ReadStatus, WriteStatus, Read, Program, SectorErase, ChipErase, Identify}
 use Rattle.flash.specs.declared.Decoded.{Decoded}

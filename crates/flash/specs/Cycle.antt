@@ -1,10 +1,10 @@
--- A cycle: what starts one at `des`, and what its end and a supply that goes off leave (document 01, 'Flash rules', 'Supply').
+-- Believed: A cycle: what starts one at `des`, and what its end and a supply that goes off leave (document 01, 'Flash rules', 'Supply').
 use Prim.Native.Nat.{ℕ, _/_, _%_}
 use mathlib.Core.Bool.{Bool, true, false}
 use mathlib.Core.List.{List}
 use lib.ListN.{replicate}
 use lib.Dec.{leb, eqb}
-use Rattle.law.specs.Choice.{pick}
+use Rattle.law.specs.Words.{pick}
 use Rattle.page.specs.Geometry.{flashPage}
 use Rattle.flash.specs.Code.{sectorOf, sectorLocked, wpen, enabled, keptBits, withEnable}
 use Rattle.flash.specs.declared.Op.{Op}

@@ -4,7 +4,7 @@ use mathlib.Core.Bool.{Bool}
 use mathlib.Core.Path.{_≡_, refl, ap}
 use lib.Dec.{eqb}
 use Rattle.law.specs.declared.Numbers.{Numbers}
-use Rattle.law.specs.Choice.{pick}
+use Rattle.law.specs.Words.{pick}
 use Rattle.law.specs.Numbers.{numbersOf, by-numbers}
 use Rattle.law.specs.Deciding.{Decides}
 use Rattle.flash.specs.declared.Op.{Op}

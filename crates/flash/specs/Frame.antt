@@ -1,10 +1,10 @@
--- A frame, from `sel` to `des`: its bytes and the replies to them (document 01, 'Flash rules').
+-- Believed: A frame, from `sel` to `des`: its bytes and the replies to them (document 01, 'Flash rules').
 use Prim.Native.Nat.{ℕ, _+_, _-_, _*_, _/_, _%_}
 use mathlib.Core.Bool.{Bool, true, not}
 use mathlib.Core.List.{List}
 use lib.ListN.{set}
 use lib.Dec.{ltb, eqb}
-use Rattle.law.specs.Choice.{pick}
+use Rattle.law.specs.Words.{pick}
 use Rattle.page.specs.Geometry.{flashPage, flashSector, flashSize}
 use Rattle.page.specs.Rolling.{rolledIn, nextIn}
 use Rattle.record.specs.declared.Skeleton.{Skeleton}

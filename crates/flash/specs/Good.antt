@@ -4,7 +4,7 @@ use mathlib.Core.Bool.{Bool, true, false}
 use mathlib.Core.Path.{_≡_}
 use mathlib.Core.List.{List}
 use lib.ListN.{length}
-use Rattle.law.specs.Choice.{pick}
+use Rattle.law.specs.Words.{pick}
 use Rattle.page.specs.Geometry.{flashPage, flashSectors, flashSize}
 use Rattle.record.specs.Status.{StatusOk}
 use Rattle.flash.specs.Code.{wpen}

@@ -1,8 +1,8 @@
--- One record of channel F, and one of channel L, for the flash (document 01, 'Flash rules', 'Supply').
+-- Believed: One record of channel F, and one of channel L, for the flash (document 01, 'Flash rules', 'Supply').
 use Prim.Native.Nat.{ℕ}
 use mathlib.Core.Bool.{Bool, true, false}
 use mathlib.Core.List.{List}
-use Rattle.law.specs.Choice.{pick}
+use Rattle.law.specs.Words.{pick}
 use Rattle.record.specs.LineRules.{goesOff, lockComesOn}
 use Rattle.record.specs.declared.FlashEvent.{FlashEvent}
 use Rattle.record.specs.declared.FlashEvent.the-variants as event

@@ -5,12 +5,14 @@ use mathlib.Core.List.{List}
 use Prim.Native.Nat.{ℕ, _+_, _*_, _/_, _%_, _≤_, _<_}
 use native.Mathlib.Omega.{arith}
 use lib.ListN.{length, getD, replicate, getD-replicate}
-use Rattle.law.specs.Choice.{pick}
+use Rattle.law.specs.Words.{pick}
 use Rattle.cell.specs.declared.Cell.{Cell}
-use Rattle.cell.specs.Rules.{erasedCell, doubtfulCell, storedCell, programmedCell, cutCell, ByteCell}
+use Rattle.cell.specs.Rules.{erasedCell, doubtfulCell, storedCell, programmedCell, cutCell}
+use Rattle.cell.specs.Bytes.{ByteCell}
 use Rattle.cell.proofs.Neutral.{programmed-ff, cut-ff}
 use Rattle.page.specs.Geometry.{flashPage, eepromPage}
-use Rattle.page.specs.Rolling.{sentPlace, roll}
+use Rattle.page.specs.Rolling.{sentPlace}
+use Rattle.page.specs.Roll.{roll}
 use Rattle.page.specs.Laws.{roll-unsent}
 use Rattle.image.specs.Image.{Image, sizeOf, spans, cellAt}
 use Rattle.image.specs.Cycles.{programPage, cutProgramPage, eraseAll, cutEraseAll, storePage, cutStorePage}

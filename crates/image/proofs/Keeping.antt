@@ -7,9 +7,11 @@ use Prim.Native.Nat.{ℕ, _/_, _%_, _<_}
 use native.Mathlib.Omega.{arith}
 use lib.Dec.{eqb}
 use lib.ListN.{getD}
-use Rattle.law.specs.Choice.{pick, split, of-both, lt-or-le}
+use Rattle.law.specs.Choice.{split, of-both, lt-or-le}
+use Rattle.law.specs.Words.{pick}
 use Rattle.cell.specs.declared.Cell.{Cell}
-use Rattle.cell.specs.Rules.{erasedCell, doubtfulCell, storedCell, programmedCell, cutCell, Disjoint, ByteCell}
+use Rattle.cell.specs.Rules.{erasedCell, doubtfulCell, storedCell, programmedCell, cutCell, Disjoint}
+use Rattle.cell.specs.Bytes.{ByteCell}
 use Rattle.cell.proofs.Disjoint.{disjoint-erased, disjoint-doubtful, disjoint-stored, disjoint-programmed, disjoint-cut}
 use Rattle.cell.proofs.Neutral.{byte-erased, byte-doubtful, byte-stored, byte-programmed, byte-cut}
 use Rattle.page.specs.Geometry.{flashPage, eepromPage}

@@ -6,7 +6,8 @@ use native.Mathlib.Nat.{mod-lt, mod-eq-of-lt, div-eq-of-lt, div-add-mod, mul-add
 use native.Mathlib.Omega.{arith}
 use borrow.Author.Tests.{eq-eqb, ne-eqb}
 use lib.ListN.{length, getD, set}
-use Rattle.law.specs.Places.{byPlace, done, more}
+use Rattle.law.specs.Places.{done, more}
+use Rattle.law.specs.Words.{byPlace}
 use Rattle.law.specs.Stretch.{skip, stop}
 use Rattle.cell.specs.declared.Cell.{Cell}
 use Rattle.image.specs.Image.{inPage}

@@ -12,7 +12,8 @@ use Rattle.record.specs.declared.Chip.{Chip}
 use Rattle.record.specs.declared.Chip.the-variants.{Flash, Eeprom}
 use Rattle.image.specs.Images.{perChip, everyChip, keptBytes, pageSize}
 use Rattle.image.proofs.Each.{chip-by-chip}
-use Rattle.image.specs.View.{canShow, viewPlace, viewLength, pageShown}
+use denote.Ref.{RefT, now}
+use Rattle.image.specs.View.{canShow, viewPlace, viewLength, pageShown, Shows}
 
 -- what is known where a page can be shown
 pub record CanShow (long : Chip → ℕ) (chip : Chip) (number : ℕ) : Type 0 where
@@ -86,3 +87,7 @@ module _ (bytes : Chip → List ℕ) (chip : Chip) (number : ℕ) where
       let p = some-page chip in
       absurd (omega arith))
       (λ t. t)
+
+-- any two parts that the promise of `view` admits lie at one place and have the same bytes
+pub shows-one : (images : Chip → RefT (List ℕ)) (chip : Chip) (number : ℕ) (p q : RefT (List ℕ)) → Shows images chip number p → Shows images chip number q → (p .ptr ≡ q .ptr) × (now p ≡ now q)
+shows-one images chip number p q s t = (s .lies ∙ sym (t .lies), s .bytes ∙ sym (t .bytes))

@@ -1,9 +1,9 @@
--- What a cycle makes of a chip's kept bytes: one rule where it ended whole, one where the supply cut it (document 01, 'Flash rules',
+-- Believed: What a cycle makes of a chip's kept bytes: one rule where it ended whole, one where the supply cut it (document 01, 'Flash rules',
 -- 'EEPROM rules', 'Supply').
 use Prim.Native.Nat.{ℕ}
 use mathlib.Core.List.{List}
 use lib.ListN.{getD}
-use Rattle.law.specs.Choice.{pick}
+use Rattle.law.specs.Words.{pick}
 use Rattle.cell.specs.Rules.{erasedCell, doubtfulCell, storedCell, programmedCell, cutCell}
 use Rattle.page.specs.Geometry.{flashPage, eepromPage}
 use Rattle.page.specs.Rolling.{sentPlace}

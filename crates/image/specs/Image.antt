@@ -1,11 +1,10 @@
--- The kept bytes of a chip: their values and their masks of doubtful bits.
+-- Believed: The kept bytes of a chip: their values and their masks of doubtful bits.
 use Prim.Native.Nat.{ℕ, _/_, _%_}
 use mathlib.Core.Bool.{Bool, false}
 use mathlib.Core.List.{List}
 use lib.Dec.{eqb, ltb}
 use lib.ListN.{length, getD}
-use Rattle.law.specs.Choice.{pick}
-use Rattle.law.specs.Places.{byPlace}
+use Rattle.law.specs.Words.{pick, byPlace}
 use Rattle.cell.specs.declared.Cell.{Cell}
 use Rattle.cell.specs.Rules.{Disjoint}
 

@@ -1,9 +1,9 @@
--- The chips' images as one: one field for each chip, and what is said of each.
+-- Believed: The chips' images as one: one field for each chip, and what is said of each.
 use Prim.Native.Nat.{ℕ}
 use mathlib.Core.Path.{_≡_}
 use mathlib.Core.Bool.{Bool, true, false}
 use mathlib.Core.List.{List}
-use Rattle.law.specs.Choice.{pick}
+use Rattle.law.specs.Words.{pick}
 use Rattle.page.specs.Geometry.{flashPage, flashSector, eepromPage, eepromSize}
 use Rattle.record.specs.declared.Chip.{Chip}
 use Rattle.record.specs.declared.Chip.the-variants.{Flash, Eeprom}

@@ -1,10 +1,12 @@
--- The page view: which part of which image is shown (document 01, 'Replies and stopping', refusal 11).
-use Prim.Native.Nat.{ℕ, _*_, _/_}
+-- Believed: The page view: which part of which image is shown (document 01, 'Replies and stopping', refusal 11).
+use Prim.Native.Nat.{ℕ, _+_, _*_, _/_}
+use mathlib.Core.Path.{_≡_}
 use mathlib.Core.Bool.{Bool, false}
 use mathlib.Core.List.{List, []}
 use lib.Dec.{eqb, ltb}
 use lib.ListN.{length, take, drop}
-use Rattle.law.specs.Choice.{pick}
+use denote.Ref.{RefT, now}
+use Rattle.law.specs.Words.{pick}
 use Rattle.record.specs.declared.Chip.{Chip}
 use Rattle.image.specs.Images.{everyChip, keptBytes, pageSize}
 
@@ -23,3 +25,9 @@ viewLength long chip number = pick (canShow long chip number) (pageSize chip) 0
 unfoldable pub pageShown : (Chip → List ℕ) → Chip → ℕ → List ℕ
 pageShown bytes chip number =
     pick (canShow (λ c. length (bytes c)) chip number) (take (pageSize chip) (drop (pageSize chip * number) (bytes chip))) []
+
+-- What is shown is a part of the image asked for, not a copy: it lies where that image lies, further on by the page's place, and its bytes are the page's. A lent
+-- part's `ptr` is the memory that it lies in and the place in that.
+pub record Shows (images : Chip → RefT (List ℕ)) (chip : Chip) (number : ℕ) (part : RefT (List ℕ)) : Type 0 where
+  pub lies : part .ptr ≡ (images chip .ptr .0, viewPlace (λ c. length (now (images c))) chip number + images chip .ptr .1)
+  pub bytes : now part ≡ pageShown (λ c. now (images c)) chip number

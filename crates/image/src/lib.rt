@@ -3,7 +3,7 @@
 ghost use mathlib.Core.Path.{_≡_};
 ghost use Prim.Native.Nat.{_+_, _*_, _≤_, _<_};
 ghost use lib.ListN.{length};
-ghost use Rattle.law.specs.Places.{byPlace};
+ghost use Rattle.law.specs.Words.{byPlace};
 ghost use Rattle.page.specs.Geometry.{flashPage, eepromPage};
 ghost use Rattle.page.specs.Rolling.{sentPlace};
 ghost use Rattle.image.specs.Image.{imageOf, eachPlace, onImage, inPage, onPage};

@@ -1,12 +1,12 @@
 // The page view: a page of the flash image or of the EEPROM image as a part of it, not a copy.
 ghost use mathlib.Core.Path.{_≡_};
 ghost use Rattle.image.specs.Images.{perChip, pageSize};
-ghost use Rattle.image.specs.View.{canShow, viewPlace, viewLength, pageShown};
+ghost use Rattle.image.specs.View.{canShow, viewPlace, viewLength, Shows};
 use record::Chip;
 
 // Page `number` of the image asked for. The empty part is refusal 11: no page is empty.
 pub fn view<'a>(flash: &'a [u8], eeprom: &'a [u8], chip: Chip, number: usize) -> &'a [u8]
-    ensures { λ r. ⌜ now r ≡ pageShown (perChip (now (flash .entry)) (now (eeprom .entry))) chip number ⌝ }
+    ensures { λ r. ⌜ Shows (perChip (flash .entry) (eeprom .entry)) chip number r ⌝ }
 {
     let from = view_place(flash.len(), eeprom.len(), chip, number);
     let to = from + view_length(flash.len(), eeprom.len(), chip, number);

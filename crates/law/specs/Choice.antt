@@ -5,11 +5,7 @@ use mathlib.Core.Logic.{_⊎_, inl, inr}
 use Prim.Native.Nat.{ℕ, _≤_, _<_}
 use lib.Dec.{ltb}
 use borrow.Author.Tests.{ltb-true, ltb-false}
-
--- the first where the test holds, else the second
-abbrev pub pick : {A : Type 0} → Bool → A → A → A
-pick true a b = a
-pick false a b = b
+use Rattle.law.specs.Words.{pick}
 
 -- what a callee ensures of its result, and what a test says of that result
 pub via : {A : Type 0} {r s b : A} → r ≡ s → r ≡ b → s ≡ b

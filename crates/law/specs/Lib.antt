@@ -1,5 +1,6 @@
 -- Laws that every floor cites; no domain.
 pub mod Choice
+pub mod Words
 pub mod Deciding
 pub mod Lists
 pub mod Numbers

@@ -4,29 +4,12 @@ use mathlib.Core.Bool.{Bool, true, false}
 use mathlib.Core.List.{List, [], _∷_, _++_}
 use Prim.Native.Nat.{ℕ, _≤_}
 use native.Mathlib.Omega.{arith}
-
-unfoldable pub keep : {A : Type 0} → Bool → A → List A → List A
-keep true a l = a ∷ l
-keep false a l = l
-
--- the elements that pass the test, in their order
-unfoldable pub filter : {A : Type 0} → (A → Bool) → List A → List A
-filter q [] = []
-filter q (a ∷ l) = keep (q a) a (filter q l)
+use Rattle.law.specs.Words.{All, Rising, filter, keep}
 
 -- the lists that f gives, one after the other
 unfoldable pub gather : {A B : Type 0} → (A → List B) → List A → List B
 gather f [] = []
 gather f (a ∷ l) = f a ++ gather f l
-
-unfoldable pub All : {A : Type 0} → (A → Type 0) → List A → Type 0
-All P [] = Unit {0}
-All P (a ∷ l) = P a × All P l
-
--- no later element has a smaller number than an earlier one
-unfoldable pub Rising : {A : Type 0} → (A → ℕ) → List A → Type 0
-Rising f [] = Unit {0}
-Rising f (a ∷ l) = All (λ b. f a ≤ f b) l × Rising f l
 
 -- the same by neighbours: none is below the one before; n stands before the list
 unfoldable pub RisingFrom : {A : Type 0} → (A → ℕ) → ℕ → List A → Type 0

@@ -5,11 +5,7 @@ use Prim.Native.Nat.{ℕ, zero, suc, _+_, _≤_, _<_}
 use native.Mathlib.Nat.{not-suc-le-zero, le-of-suc-le-suc, add-zero, add-suc, suc-add, zero-add}
 use native.Mathlib.Numerals.{add-one}
 use lib.ListN.{length, getD, set}
-
--- f gets the place and the element
-abbrev pub byPlace : (ℕ → ℕ → ℕ) → ℕ → List ℕ → List ℕ
-byPlace f i [] = []
-byPlace f i (x ∷ xs) = f i x ∷ byPlace f (suc i) xs
+use Rattle.law.specs.Words.{byPlace}
 
 abbrev pub doneFrom : (ℕ → ℕ → ℕ) → ℕ → ℕ → List ℕ → List ℕ
 doneFrom f i zero xs = xs

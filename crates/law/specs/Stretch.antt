@@ -3,7 +3,8 @@ use mathlib.Core.Path.{_≡_, refl, sym, ap, ap₂}
 use mathlib.Core.List.{List, [], _∷_}
 use Prim.Native.Nat.{ℕ, zero, suc, _+_, _≤_, _<_}
 use native.Mathlib.Omega.{arith}
-use Rattle.law.specs.Places.{byPlace, done, doneFrom}
+use Rattle.law.specs.Places.{done, doneFrom}
+use Rattle.law.specs.Words.{byPlace}
 
 skip-from : (f : ℕ → ℕ → ℕ) (i n : ℕ) (xs : List ℕ) → ((k x : ℕ) → k < i + n → f k x ≡ x) → doneFrom f i n xs ≡ xs
 skip-from f i zero xs same = refl

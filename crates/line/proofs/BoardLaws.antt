@@ -17,7 +17,8 @@ use Rattle.field.proofs.Answers.{both-same, GotHex, NoHex, GotWord, NoWord, Got
 use Rattle.field.proofs.DecimalLaws.{decimal-digit}
 use Rattle.line.specs.declared.boards.ReadPlaces.{ReadPlaces}
 use Rattle.line.specs.declared.boards.ReadBoard.{ReadBoard}
-use Rattle.line.specs.Boards.{ReadsStatus, spelledPlaces, PlacesOk, ReadsPlaces, spelledBoard, BoardOk, ReadsBoard}
+use Rattle.line.specs.Boards.{spelledPlaces, PlacesOk, spelledBoard, BoardOk, ReadsBoard}
+use Rattle.line.specs.Readers.{ReadsStatus, ReadsPlaces}
 use Rattle.line.proofs.After.{put-on}
 
 -- ---- the status

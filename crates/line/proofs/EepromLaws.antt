@@ -5,7 +5,7 @@ use mathlib.Core.Path.{_≡_, refl, sym, ap}
 use mathlib.Core.List.{List, [], _∷_, _++_, append-nil}
 use lib.Dec.{eqb}
 use lib.ListN.{length, getD}
-use Rattle.law.specs.Choice.{pick}
+use Rattle.law.specs.Words.{pick}
 use Rattle.record.specs.declared.EepromEvent.{EepromEvent}
 use Rattle.record.specs.declared.EepromEvent.the-variants.{Start, Byte, Cut, Stop, End}
 use Rattle.field.specs.declared.spelling.Spelling.{Spelling}
@@ -18,7 +18,8 @@ use Rattle.field.proofs.HexLaws.{unhex, unhex-is}
 use Rattle.line.specs.declared.channel_e.ReadBit.{ReadBit}
 use Rattle.line.specs.declared.channel_e.ReadData.{ReadData}
 use Rattle.line.specs.declared.channel_e.ReadEeprom.{ReadEeprom}
-use Rattle.line.specs.ChannelE.{spelledBit, ReadsBit, spelledData, DataOk, ReadsData, spelledEeprom, EepromOk, ReadsEeprom}
+use Rattle.line.specs.ChannelE.{spelledEeprom, EepromOk}
+use Rattle.line.specs.Readers.{spelledBit, ReadsBit, spelledData, DataOk, ReadsData, ReadsEeprom}
 use Rattle.line.proofs.After.{after, past, next-after, put-on}
 
 -- ---- the acknowledge bit

@@ -4,7 +4,7 @@ use mathlib.Core.Path.{_≡_, refl, ap₂}
 use mathlib.Core.List.{List, [], _∷_, _++_}
 use lib.Dec.{eqb}
 use lib.ListN.{length, getD}
-use Rattle.law.specs.Choice.{pick}
+use Rattle.law.specs.Words.{pick}
 use Rattle.record.specs.declared.FlashEvent.{FlashEvent}
 use Rattle.record.specs.declared.FlashEvent.the-variants.{Select, Byte, Cut, Deselect, End}
 use Rattle.field.specs.declared.spelling.Spelling.{Spelling}
@@ -16,7 +16,8 @@ use Rattle.field.proofs.Answers.{both-same, GotHex, NoHex, GotWord, NoWord}
 use Rattle.field.proofs.HexLaws.{unhex, unhex-is}
 use Rattle.line.specs.declared.channel_f.ReadPair.{ReadPair}
 use Rattle.line.specs.declared.channel_f.ReadFlash.{ReadFlash}
-use Rattle.line.specs.ChannelF.{spelledPair, PairOk, ReadsPair, spelledFlash, FlashOk, ReadsFlash}
+use Rattle.line.specs.ChannelF.{spelledFlash, FlashOk}
+use Rattle.line.specs.Readers.{spelledPair, PairOk, ReadsPair, ReadsFlash}
 use Rattle.line.proofs.After.{after, past, next-after, put-on}
 
 -- ---- two bytes in hex, one field after another

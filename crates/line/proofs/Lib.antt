@@ -9,3 +9,4 @@ pub mod BoardLaws
 pub mod OutputLaws
 pub mod Whole
 pub mod Theorems
+pub mod Here

@@ -4,14 +4,15 @@ use mathlib.Core.Path.{_≡_, refl}
 use mathlib.Core.List.{List, [], _∷_, _++_}
 use lib.Dec.{eqb}
 use lib.ListN.{length, getD}
-use Rattle.law.specs.Choice.{pick}
+use Rattle.law.specs.Words.{pick}
 use Rattle.record.specs.declared.LineEvent.{LineEvent}
 use Rattle.record.specs.declared.LineEvent.the-variants.{SupplyOn, SupplyOff, LockOn, LockOff}
 use Rattle.field.specs.Reads.{Stands}
 use Rattle.field.proofs.Reading.{none, one, by-inverse}
 use Rattle.field.proofs.Answers.{NoWord}
 use Rattle.line.specs.declared.channel_l.ReadLine.{ReadLine}
-use Rattle.line.specs.ChannelL.{spelledLine, ReadsLine}
+use Rattle.line.specs.ChannelL.{spelledLine}
+use Rattle.line.specs.Readers.{ReadsLine}
 
 -- the event that a line spells, found from its bytes
 pub lineAt : List ℕ → LineEvent

@@ -19,7 +19,8 @@ use Rattle.field.specs.Decimal.{largest, decimal, decimalField}
 use Rattle.field.specs.Ends.{tab}
 use Rattle.field.specs.Hex.{hexField}
 use Rattle.field.specs.Digit.{digitField}
-use Rattle.field.specs.Spelling.{room, noBytes, putAll}
+use Rattle.field.specs.Spelling.{noBytes, putAll}
+use Rattle.field.specs.Room.{room}
 use Rattle.field.proofs.SpellingLaws.{Holds, holds-all, digits-count}
 use Rattle.line.specs.declared.output.Written.{Written}
 use Rattle.line.specs.ChannelF.{spelledFlash}

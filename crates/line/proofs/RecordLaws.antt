@@ -4,7 +4,7 @@ use mathlib.Core.Path.{_≡_, refl, sym, ap, _∙_}
 use mathlib.Core.List.{List, [], _∷_, _++_, append-nil}
 use lib.Dec.{eqb}
 use lib.ListN.{length, getD, drop}
-use Rattle.law.specs.Choice.{pick}
+use Rattle.law.specs.Words.{pick}
 use Rattle.record.specs.declared.FlashEvent.{FlashEvent}
 use Rattle.record.specs.declared.EepromEvent.{EepromEvent}
 use Rattle.record.specs.declared.LineEvent.{LineEvent}
@@ -23,7 +23,8 @@ use Rattle.line.specs.declared.records.ReadRecord.{ReadRecord}
 use Rattle.line.specs.ChannelF.{spelledFlash, FlashOk}
 use Rattle.line.specs.ChannelE.{spelledEeprom, EepromOk}
 use Rattle.line.specs.ChannelL.{spelledLine}
-use Rattle.line.specs.Records.{spelledEvent, spelled, EventOk, ReadsEvent, ReadsRecord}
+use Rattle.line.specs.Records.{spelledEvent, spelled, EventOk, ReadsRecord}
+use Rattle.line.specs.Readers.{ReadsEvent}
 use Rattle.line.proofs.After.{after, next-after, put-on}
 use Rattle.line.proofs.FlashLaws.{flashAt, flash-law}
 use Rattle.line.proofs.EepromLaws.{eepromAt, eeprom-law}

@@ -2,13 +2,14 @@
 use Prim.Native.Nat.{ℕ, _+_, _-_, _%_, _/_, _≤_, _<_}
 use native.Mathlib.Omega.{arith}
 use native.Mathlib.Nat.{add-sub-cancel-left}
-use mathlib.Core.Path.{_≡_, refl, sym, subst, _∙_}
-use mathlib.Core.Logic.{_⊎_, inl, inr, ⊎-elim}
+use mathlib.Core.Path.{_≡_, refl, sym, ap, subst, _∙_}
+use mathlib.Core.Logic.{_⊎_, _↔_, inl, inr, ⊎-elim}
 use mathlib.Core.List.{List, _++_}
 use lib.ListN.{length, drop, getD}
 use lib.Dec.{eqb}
 use borrow.Author.Tests.{eqb-true, eqb-false}
 use Rattle.law.specs.Choice.{split, lt-or-le}
+use Rattle.record.specs.Answers.{answerNumber}
 use Rattle.record.specs.declared.Record.{Record}
 use Rattle.record.specs.declared.Board.{Board}
 use Rattle.field.specs.Decimal.{decimalField}
@@ -23,8 +24,8 @@ use Rattle.line.specs.declared.records.ReadRecord.{ReadRecord}
 use Rattle.line.specs.declared.boards.ReadBoard.{ReadBoard}
 use Rattle.line.specs.declared.output.Written.{Written}
 use Rattle.line.specs.Output.{Wrote}
-use Rattle.line.specs.Records.{spelledEvent, spelled, EventOk, RecordOk, ReadsRecord}
-use Rattle.line.specs.Boards.{spelledBoard, spelledPlaces, BoardOk, ReadsBoard, WroteBoard}
+use Rattle.line.specs.Records.{spelledEvent, spelled, EventOk, RecordOk, ReadsRecord, recordAnswer}
+use Rattle.line.specs.Boards.{spelledBoard, spelledPlaces, BoardOk, ReadsBoard, WroteBoard, boardAnswer}
 use Rattle.line.proofs.Apart.{tells-record, tells-board}
 use Rattle.line.proofs.RecordLaws.{eventAt, event-law}
 use Rattle.line.proofs.Whole.{paper-one, wrote-determined, spelled-if-accepted, accepted-if-spelled, reads-back, same-bytes}
@@ -70,6 +71,13 @@ record-reads-back = reads-back tells-record
 pub record-same-bytes : (line old new : List ℕ) (a : ReadRecord) (r : Record) (w : Written) → ReadsRecord line 0 a → a ≡ ReadRecord.Value r (record { at = length line })
     → Wrote (spelled r) old new w → length line ≤ length old → new ≡ line ++ drop (length line) old
 record-same-bytes = same-bytes tells-record
+
+-- by the paper's numbers: 3 exactly where no record's line stands
+pub record-three : (text : List ℕ) (at : ℕ) (a : ReadRecord) → ReadsRecord text at a → (answerNumber (recordAnswer a) ≡ 3) ↔ ((r : Record) → RecordOk r → Stands text at (spelled r) → ⊥)
+record-three text at a d = (
+  (λ h r o s. let e = sym h ∙ ap (λ (x : ReadRecord). answerNumber (recordAnswer x)) (d .found r o s) in omega arith),
+  λ none. ⊎-elim (λ e. ap (λ (x : ReadRecord). answerNumber (recordAnswer x)) e) (λ z. absurd (none (z .0) (z .1) (z .2))) (d .only),
+)
 
 -- ---- boards
 pub board-determined : (text : List ℕ) (at : ℕ) (r r′ : ReadBoard) → ReadsBoard text at r → ReadsBoard text at r′ → r ≡ r′
@@ -139,3 +147,10 @@ write-board-determined b old new new′ r r′ p q =
     let y = q .out-of-range n in
     (paper-one r r′ (x .0 ∙ sym (y .0)), x .1 ∙ sym (y .1)))
     (board-known b)
+
+-- 3 exactly where no board's line stands
+pub board-three : (text : List ℕ) (at : ℕ) (a : ReadBoard) → ReadsBoard text at a → (answerNumber (boardAnswer a) ≡ 3) ↔ ((b : Board) → BoardOk b → Stands text at (spelledBoard b) → ⊥)
+board-three text at a d = (
+  (λ h b o s. let e = sym h ∙ ap (λ (x : ReadBoard). answerNumber (boardAnswer x)) (d .found b o s) in omega arith),
+  λ none. ⊎-elim (λ e. ap (λ (x : ReadBoard). answerNumber (boardAnswer x)) e) (λ z. absurd (none (z .0) (z .1) (z .2))) (d .only),
+)

@@ -1,22 +1,19 @@
--- The board's line (document 01, 'The trace').
+-- Believed: The board's line (document 01, 'The trace').
 use Prim.Native.Nat.{ℕ}
 use mathlib.Core.Path.{_≡_}
 use mathlib.Core.List.{List, _++_}
+use Rattle.record.specs.declared.Answer.{Answer}
+use Rattle.record.specs.declared.Answer.the-variants.{Settled, BadLine}
 use Rattle.record.specs.declared.Board.{Board}
 use Rattle.record.specs.Status.{StatusOk}
 use Rattle.field.specs.Ends.{tab, lf}
-use Rattle.field.specs.declared.hex.ReadHex.{ReadHex}
 use Rattle.field.specs.Hex.{hexField}
 use Rattle.field.specs.Digit.{digitField, DigitOk}
 use Rattle.field.specs.Reads.{Reads}
-use Rattle.line.specs.declared.boards.ReadPlaces.{ReadPlaces}
 use Rattle.line.specs.declared.boards.ReadBoard.{ReadBoard}
 use Rattle.line.specs.declared.output.Written.{Written}
 use Rattle.line.specs.Words.{wordBoard}
 use Rattle.line.specs.Output.{onPaper, Wrote}
-
-abbrev pub ReadsStatus : List ℕ → ℕ → ReadHex → Type 0
-ReadsStatus = Reads hexField StatusOk (λ n p. ReadHex.Value n (record { at = p })) ReadHex.Bad
 
 unfoldable pub spelledPlaces : ℕ × ℕ → List ℕ
 spelledPlaces x = digitField (x .0) ++ (tab ++ (digitField (x .1) ++ lf))
@@ -24,9 +21,6 @@ spelledPlaces x = digitField (x .0) ++ (tab ++ (digitField (x .1) ++ lf))
 -- watched sector 1 to 4, wired address 0 to 7
 abbrev pub PlacesOk : ℕ × ℕ → Type 0
 PlacesOk x = DigitOk 1 4 (x .0) × DigitOk 0 7 (x .1)
-
-abbrev pub ReadsPlaces : List ℕ → ℕ → ReadPlaces → Type 0
-ReadsPlaces = Reads spelledPlaces PlacesOk (λ x p. ReadPlaces.Value (x .0) (x .1) (record { at = p })) ReadPlaces.Bad
 
 -- the one spelling of a board: its line with the LF
 unfoldable pub spelledBoard : Board → List ℕ
@@ -38,6 +32,11 @@ BoardOk b = StatusOk (b .status) × PlacesOk (b .sector, b .address)
 
 abbrev pub ReadsBoard : List ℕ → ℕ → ReadBoard → Type 0
 ReadsBoard = Reads spelledBoard BoardOk (λ b p. ReadBoard.Value b (record { at = p })) ReadBoard.Bad
+
+-- by the paper's answers: 3 where no board's line stands, 0 where one does
+abbrev pub boardAnswer : ReadBoard → Answer
+boardAnswer ReadBoard.Bad = BadLine
+boardAnswer (ReadBoard.Value b next) = Settled
 
 -- a board is written: out of range is refusal 9 and leaves the output alone, else it is its line that is written
 pub record WroteBoard (b : Board) (old new : List ℕ) (r : Written) : Type 0 where

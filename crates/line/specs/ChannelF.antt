@@ -1,24 +1,11 @@
--- The events of channel F (document 01, 'The trace').
+-- Believed: The events of channel F (document 01, 'The trace').
 use Prim.Native.Nat.{ℕ, _<_}
 use mathlib.Core.List.{List, _++_}
 use Rattle.record.specs.declared.FlashEvent.{FlashEvent}
 use Rattle.record.specs.declared.FlashEvent.the-variants.{Select, Byte, Cut, Deselect, End}
 use Rattle.field.specs.Ends.{tab, lf}
 use Rattle.field.specs.Hex.{hexField}
-use Rattle.field.specs.Reads.{Reads}
-use Rattle.line.specs.declared.channel_f.ReadPair.{ReadPair}
-use Rattle.line.specs.declared.channel_f.ReadFlash.{ReadFlash}
 use Rattle.line.specs.Words.{wordSel, wordX, wordCut, wordDes, wordEnd}
-
--- SI and SO, one byte each way
-unfoldable pub spelledPair : ℕ × ℕ → List ℕ
-spelledPair x = hexField (x .0) ++ (tab ++ (hexField (x .1) ++ lf))
-
-abbrev pub PairOk : ℕ × ℕ → Type 0
-PairOk x = (x .0 < 256) × (x .1 < 256)
-
-abbrev pub ReadsPair : List ℕ → ℕ → ReadPair → Type 0
-ReadsPair = Reads spelledPair PairOk (λ x p. ReadPair.Value (x .0) (x .1) (record { at = p })) ReadPair.Bad
 
 -- from the event's word to the line's end
 unfoldable pub spelledFlash : FlashEvent → List ℕ
@@ -35,6 +22,3 @@ FlashOk (Byte si so) = (si < 256) × (so < 256)
 FlashOk Cut = Unit {0}
 FlashOk Deselect = Unit {0}
 FlashOk End = Unit {0}
-
-abbrev pub ReadsFlash : List ℕ → ℕ → ReadFlash → Type 0
-ReadsFlash = Reads spelledFlash FlashOk (λ x p. ReadFlash.Value x (record { at = p })) ReadFlash.Bad

@@ -1,11 +1,9 @@
--- The events of channel L (document 01, 'The trace').
+-- Believed: The events of channel L (document 01, 'The trace').
 use Prim.Native.Nat.{ℕ}
 use mathlib.Core.List.{List, _++_}
 use Rattle.record.specs.declared.LineEvent.{LineEvent}
 use Rattle.record.specs.declared.LineEvent.the-variants.{SupplyOn, SupplyOff, LockOn, LockOff}
 use Rattle.field.specs.Ends.{lf}
-use Rattle.field.specs.Reads.{Reads}
-use Rattle.line.specs.declared.channel_l.ReadLine.{ReadLine}
 use Rattle.line.specs.Words.{wordOn, wordOff, wordLock, wordFree}
 
 unfoldable pub spelledLine : LineEvent → List ℕ
@@ -13,6 +11,3 @@ spelledLine SupplyOn = wordOn ++ lf
 spelledLine SupplyOff = wordOff ++ lf
 spelledLine LockOn = wordLock ++ lf
 spelledLine LockOff = wordFree ++ lf
-
-abbrev pub ReadsLine : List ℕ → ℕ → ReadLine → Type 0
-ReadsLine = Reads spelledLine (λ _. Unit {0}) (λ x p. ReadLine.Value x (record { at = p })) ReadLine.Bad

@@ -5,4 +5,5 @@ pub mod ChannelE
 pub mod ChannelL
 pub mod Records
 pub mod Boards
+pub mod Readers
 pub mod Output

@@ -1,13 +1,14 @@
--- A record's line (document 01, 'The trace'): stamp, channel, event, and the event's fields.
+-- Believed: A record's line (document 01, 'The trace'): stamp, channel, event, and the event's fields.
 use Prim.Native.Nat.{ℕ, _≤_}
 use mathlib.Core.List.{List, _++_}
+use Rattle.record.specs.declared.Answer.{Answer}
+use Rattle.record.specs.declared.Answer.the-variants.{Settled, BadLine}
 use Rattle.record.specs.declared.Event.{Event}
 use Rattle.record.specs.declared.Event.the-variants.{Flash, Eeprom, Line}
 use Rattle.record.specs.declared.Record.{Record}
 use Rattle.field.specs.Ends.{tab}
 use Rattle.field.specs.Decimal.{largest, decimalField}
 use Rattle.field.specs.Reads.{Reads}
-use Rattle.line.specs.declared.records.ReadEvent.{ReadEvent}
 use Rattle.line.specs.declared.records.ReadRecord.{ReadRecord}
 use Rattle.line.specs.Words.{channelF, channelE, channelL}
 use Rattle.line.specs.ChannelF.{spelledFlash, FlashOk}
@@ -32,8 +33,10 @@ EventOk (Line e) = Unit {0}
 abbrev pub RecordOk : Record → Type 0
 RecordOk r = (r .stamp ≤ largest) × EventOk (r .event)
 
-abbrev pub ReadsEvent : List ℕ → ℕ → ReadEvent → Type 0
-ReadsEvent = Reads spelledEvent EventOk (λ x p. ReadEvent.Value x (record { at = p })) ReadEvent.Bad
-
 abbrev pub ReadsRecord : List ℕ → ℕ → ReadRecord → Type 0
 ReadsRecord = Reads spelled RecordOk (λ x p. ReadRecord.Value x (record { at = p })) ReadRecord.Bad
+
+-- a reading by the paper's answers: 3 where no record's line stands, 0 (nothing is refused) where one does
+abbrev pub recordAnswer : ReadRecord → Answer
+recordAnswer ReadRecord.Bad = BadLine
+recordAnswer (ReadRecord.Value r next) = Settled

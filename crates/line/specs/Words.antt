@@ -1,4 +1,4 @@
--- The words of a trace as bytes (document 01, 'The trace').
+-- Believed: The words of a trace as bytes (document 01, 'The trace').
 use Prim.Native.Nat.{ℕ}
 use mathlib.Core.List.{List, [], _∷_}
 

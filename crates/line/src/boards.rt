@@ -2,7 +2,8 @@
 ghost use mathlib.Core.Path.{_≡_};
 ghost use Rattle.law.specs.Deciding.{Decides};
 ghost use Rattle.field.specs.Spelling.{noBytes, putAll};
-ghost use Rattle.line.specs.Boards.{spelledBoard, BoardOk, ReadsStatus, ReadsPlaces, ReadsBoard, WroteBoard};
+ghost use Rattle.line.specs.Boards.{spelledBoard, BoardOk, ReadsBoard, WroteBoard};
+ghost use Rattle.line.specs.Readers.{ReadsStatus, ReadsPlaces};
 use crate::output::Written;
 use field::Cursor;
 use field::ReadDigit;

@@ -1,7 +1,8 @@
 // The events of channel E: sta, b, cut, sto, end.
 ghost use mathlib.Core.Path.{_≡_};
 ghost use Rattle.field.specs.Spelling.{putAll};
-ghost use Rattle.line.specs.ChannelE.{spelledEeprom, spelledBit, ReadsBit, ReadsData, ReadsEeprom};
+ghost use Rattle.line.specs.ChannelE.{spelledEeprom};
+ghost use Rattle.line.specs.Readers.{spelledBit, ReadsBit, ReadsData, ReadsEeprom};
 use field::Cursor;
 use field::ReadHex;
 use field::ReadWord;

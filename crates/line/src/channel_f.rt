@@ -1,7 +1,8 @@
 // The events of channel F: sel, x, cut, des, end.
 ghost use mathlib.Core.Path.{_≡_};
 ghost use Rattle.field.specs.Spelling.{putAll};
-ghost use Rattle.line.specs.ChannelF.{spelledFlash, ReadsPair, ReadsFlash};
+ghost use Rattle.line.specs.ChannelF.{spelledFlash};
+ghost use Rattle.line.specs.Readers.{ReadsPair, ReadsFlash};
 use field::Cursor;
 use field::ReadHex;
 use field::ReadWord;

@@ -1,7 +1,8 @@
 // The events of channel L: on, off, lock, free.
 ghost use mathlib.Core.Path.{_≡_};
 ghost use Rattle.field.specs.Spelling.{putAll};
-ghost use Rattle.line.specs.ChannelL.{spelledLine, ReadsLine};
+ghost use Rattle.line.specs.ChannelL.{spelledLine};
+ghost use Rattle.line.specs.Readers.{ReadsLine};
 use field::Cursor;
 use field::ReadWord;
 use field::Spelling;

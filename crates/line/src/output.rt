@@ -1,6 +1,7 @@
 // A line that was put together is written out (document 01, refusals 9 and 10).
 ghost use Prim.Native.Nat.{_≤_};
-ghost use Rattle.field.specs.Spelling.{held, room};
+ghost use Rattle.field.specs.Spelling.{held};
+ghost use Rattle.field.specs.Room.{room};
 ghost use Rattle.line.specs.Output.{Wrote};
 use field::Spelling;
 

@@ -1,7 +1,8 @@
 // A record's line: stamp, channel, event.
 ghost use mathlib.Core.Path.{_≡_};
 ghost use Rattle.field.specs.Spelling.{putAll};
-ghost use Rattle.line.specs.Records.{spelledEvent, spelled, ReadsEvent, ReadsRecord};
+ghost use Rattle.line.specs.Records.{spelledEvent, spelled, ReadsRecord};
+ghost use Rattle.line.specs.Readers.{ReadsEvent};
 ghost use Rattle.line.specs.Output.{Wrote};
 use crate::channel_e::ReadEeprom;
 use crate::channel_f::ReadFlash;

@@ -13,7 +13,8 @@ use Rattle.record.specs.declared.Match.the-variants.{Nothing, Agrees, Disagrees
 use Rattle.field.specs.declared.spelling.Spelling.{Spelling}
 use Rattle.field.specs.Decimal.{largest}
 use Rattle.field.specs.Hex.{hexField}
-use Rattle.field.specs.Spelling.{room, noBytes, putAll}
+use Rattle.field.specs.Spelling.{noBytes, putAll}
+use Rattle.field.specs.Room.{room}
 use Rattle.field.proofs.SpellingLaws.{Holds, holds-all, digits-count}
 use Rattle.listing.specs.Lines.{heading, byteText, replyText, matchText, recordLine, settledLine, stopLine, lastLine, refusedLine}
 

@@ -2,7 +2,6 @@
 pub mod Stores
 pub mod Putting
 pub mod Lengths
-pub mod Standing
 pub mod Which
 pub mod Walk
 pub mod Whole

@@ -8,8 +8,8 @@ use mathlib.Core.Bool.{Bool}
 use mathlib.Core.List.{List, [], _∷_, _++_}
 use lib.ListN.{length, drop, getD, length-append}
 use lib.Seq.{drop-drop, drop-append-seam, getD-append-add}
-use Rattle.law.specs.Choice.{pick, split}
-use Rattle.law.specs.Lists.{All}
+use Rattle.law.specs.Choice.{split}
+use Rattle.law.specs.Words.{pick, All}
 use Rattle.record.specs.declared.Record.{Record}
 use Rattle.record.specs.declared.Board.{Board}
 use Rattle.record.specs.declared.Reply.{Reply}
@@ -20,9 +20,11 @@ use Rattle.line.specs.Boards.{spelledBoard}
 use Rattle.line.proofs.OutputLaws.{spelled-length-min}
 use Rattle.text.specs.Texts.{spelledAll, spelledTrace, Readable}
 use Rattle.text.proofs.Theorems.{first-place}
-use Rattle.record.specs.ReplyOf.{replyOf, reply-back}
+use Rattle.record.specs.ReplyOf.{replyOf}
+use Rattle.record.proofs.ReplyOf.{reply-back}
 use Rattle.listing.specs.Bytes.{matchOf, wasPlayed, replyAt, matchAt, numberAt}
-use Rattle.listing.specs.Listing.{ListedFrom, Listed, played, listingOf, whereFit, Lists}
+use Rattle.listing.specs.Listing.{ListedFrom, Listed, listingOf, whereFit, Lists}
+use Rattle.listing.specs.Writing.{played}
 use Rattle.listing.proofs.Which.{listed-behind, one-listed, some-listed}
 
 -- ---- the records that are listed

@@ -16,14 +16,16 @@ use Rattle.record.specs.declared.Match.{Match}
 use Rattle.record.specs.Lengths.{replyPlaces}
 use Rattle.field.specs.declared.spelling.Spelling.{Spelling}
 use Rattle.field.specs.Reads.{Stands}
-use Rattle.field.specs.Spelling.{held, room, noBytes, putAll}
+use Rattle.field.specs.Spelling.{held, noBytes, putAll}
+use Rattle.field.specs.Room.{room}
 use Rattle.field.proofs.Reading.{Got}
 use Rattle.field.proofs.SpellingLaws.{Holds}
 use Rattle.line.specs.Boards.{spelledBoard, BoardOk}
 use Rattle.line.specs.Records.{spelled, RecordOk}
 use Rattle.listing.specs.Bytes.{wasPlayed, replyAt, matchAt}
 use Rattle.listing.specs.Lines.{heading, recordLine}
-use Rattle.listing.specs.Listing.{ListedFrom, Listed, recordLines, ListsRecords, ListsPlayed}
+use Rattle.listing.specs.Listing.{ListedFrom, Listed, recordLines}
+use Rattle.listing.specs.Writing.{ListsRecords, ListsPlayed}
 use Rattle.listing.proofs.Lengths.{heading-length, record-length, holds}
 use Rattle.listing.proofs.Stores.{joined, then}
 use Rattle.listing.proofs.Which.{listed-behind}

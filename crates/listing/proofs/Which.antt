@@ -11,7 +11,7 @@ use Rattle.record.specs.declared.Board.{Board}
 use Rattle.record.specs.declared.Record.{Record}
 use Rattle.record.specs.Lengths.{replyPlaces}
 use Rattle.field.specs.Reads.{Stands}
-use Rattle.field.specs.Spelling.{room}
+use Rattle.field.specs.Room.{room}
 use Rattle.field.proofs.Reading.{stands-length}
 use Rattle.line.specs.Boards.{spelledBoard, BoardOk}
 use Rattle.line.specs.Records.{spelled}
@@ -21,7 +21,7 @@ use Rattle.record.specs.ReplyOf.{replyOf}
 use Rattle.listing.specs.Bytes.{wasPlayed, replyAt, matchAt}
 use Rattle.listing.specs.Listing.{ListedFrom, Listed, recordLines}
 use Rattle.listing.proofs.Lengths.{record-length}
-use Rattle.listing.proofs.Standing.{RecordHere, record-here, board-here}
+use Rattle.line.proofs.Here.{RecordHere, record-here, board-here}
 
 -- a record for which there are no four bytes was not played
 pub beyond : (replies : List ℕ) (k : ℕ) → length replies ≤ 4 * k → wasPlayed (replyAt replies k) ≡ false

@@ -8,16 +8,18 @@ use mathlib.Core.List.{List, _++_, append-assoc}
 use lib.ListN.{length, drop, length-append}
 use lib.Seq.{sets, length-sets}
 use borrow.Author.Tests.{eq-eqb, ne-eqb, lt-ltb, le-ltb}
-use Rattle.law.specs.Choice.{pick}
+use Rattle.law.specs.Words.{pick}
 use Rattle.record.specs.declared.Record.{Record}
 use Rattle.field.specs.declared.spelling.Spelling.{Spelling}
 use Rattle.field.specs.Decimal.{largest}
-use Rattle.field.specs.Spelling.{held, room, noBytes, putAll}
+use Rattle.field.specs.Spelling.{held, noBytes, putAll}
+use Rattle.field.specs.Room.{room}
 use Rattle.field.proofs.SpellingLaws.{Holds}
 use Rattle.listing.specs.Bytes.{answerIn, placeIn, countIn, isRefusal}
 use Rattle.listing.specs.Lines.{heading, lastLine, refusedLine}
 use Rattle.record.specs.Lengths.{repliesLength, resultLength, replyPlaces}
-use Rattle.listing.specs.Listing.{Listed, recordLines, listingOf, listingRoom, whereFit, Lists, ListsPlayed}
+use Rattle.listing.specs.Listing.{Listed, recordLines, listingOf, listingRoom, whereFit, Lists}
+use Rattle.listing.specs.Writing.{ListsPlayed}
 use Rattle.listing.proofs.Lengths.{heading-length, last-length, refused-length, holds}
 use Rattle.listing.proofs.Stores.{then, front}
 use Rattle.listing.proofs.Which.{some-listed, from-somewhere, few, lines-length}

@@ -1,10 +1,10 @@
--- What the lent bytes of a replay say (document 01, 'Replies and stopping'): four bytes for each record's reply, and twelve for the result.
+-- Believed: What the lent bytes of a replay say (document 01, 'Replies and stopping'): four bytes for each record's reply, and twelve for the result.
 use Prim.Native.Nat.{ℕ, _+_, _*_}
 use mathlib.Core.Bool.{Bool, true, false}
 use mathlib.Core.List.{List}
 use lib.Dec.{eqb, leb}
 use lib.ListN.{getD}
-use Rattle.law.specs.Choice.{pick}
+use Rattle.law.specs.Words.{pick}
 use Rattle.record.specs.declared.Reply.{Reply}
 use Rattle.record.specs.declared.Reply.the-variants.{NotPlayed, Silent, Byte, Ack, NoAck, Starts, Ends, NoCycle}
 use Rattle.record.specs.ReplyOf.{replyOf}

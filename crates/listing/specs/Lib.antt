@@ -3,3 +3,4 @@ pub mod Words
 pub mod Bytes
 pub mod Lines
 pub mod Listing
+pub mod Writing

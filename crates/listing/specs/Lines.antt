@@ -1,8 +1,8 @@
--- The lines of a listing (document 01, 'One listing in full'): tabs between fields, LF at the end.
+-- Believed: The lines of a listing (document 01, 'One listing in full'): tabs between fields, LF at the end.
 use Prim.Native.Nat.{ℕ}
 use mathlib.Core.List.{List, [], _++_}
 use lib.Dec.{eqb}
-use Rattle.law.specs.Choice.{pick}
+use Rattle.law.specs.Words.{pick}
 use Rattle.record.specs.declared.Reply.{Reply}
 use Rattle.record.specs.declared.Reply.the-variants.{NotPlayed, Silent, Byte, Ack, NoAck, Starts, Ends, NoCycle}
 use Rattle.record.specs.declared.Match.{Match}

@@ -1,17 +1,16 @@
--- The whole listing, and which records it lists (document 01, 'One listing in full').
+-- Believed: The whole listing, and which records it lists (document 01, 'One listing in full').
 use Prim.Native.Nat.{ℕ, suc, _+_, _*_, _≤_}
 use mathlib.Core.Bool.{true, false}
 use mathlib.Core.Path.{_≡_}
 use mathlib.Core.List.{List, [], _∷_, _++_}
 use lib.Dec.{eqb, ltb}
 use lib.ListN.{length, drop}
-use lib.Seq.{sets}
-use Rattle.law.specs.Choice.{pick}
+use Rattle.law.specs.Words.{pick}
 use Rattle.record.specs.declared.Board.{Board}
 use Rattle.record.specs.declared.Record.{Record}
 use Rattle.record.specs.Lengths.{repliesLength, resultLength, replyPlaces}
 use Rattle.field.specs.Reads.{Stands}
-use Rattle.field.specs.Spelling.{room}
+use Rattle.field.specs.Room.{room}
 use Rattle.line.specs.Boards.{spelledBoard, BoardOk}
 use Rattle.line.specs.Records.{spelled, RecordOk}
 use Rattle.listing.specs.Bytes.{wasPlayed, replyAt, matchAt, answerIn, placeIn, countIn, isRefusal}
@@ -27,11 +26,6 @@ ListedFrom text replies at k (r ∷ rs) = RecordOk r × Stands text at (spelled 
 pub record Listed (text replies : List ℕ) (rs : List Record) : Type 0 where
   pub behind : (b : Board) → BoardOk b → Stands text 0 (spelledBoard b) → ListedFrom text replies (length (spelledBoard b)) 0 rs
   pub none : ((b : Board) → BoardOk b → Stands text 0 (spelledBoard b) → ⊥) → rs ≡ []
-
--- the records before the first that was not played; the first of them is record k
-unfoldable pub played : List ℕ → ℕ → List Record → List Record
-played replies k [] = []
-played replies k (r ∷ rs) = pick (wasPlayed (replyAt replies k)) (r ∷ played replies (suc k) rs) []
 
 -- record k is on line k + 2
 unfoldable pub recordLines : List ℕ → ℕ → List Record → List ℕ
@@ -61,17 +55,3 @@ pub record Lists (text replies result old new : List ℕ) (n : ℕ) : Type 0 whe
   pub within : n ≤ length new
   pub answer : n ≡ whereFit replies result old (length (listingOf records replies result)) 0
   pub content : new ≡ whereFit replies result old (listingOf records replies result ++ drop (length (listingOf records replies result)) old) old
-
--- The lines of the records of which P holds are written from a place on, and n is the place after them.
-pub record ListsRecords (P : List Record → Type 0) (replies old : List ℕ) (from : ℕ) (new : List ℕ) (n : ℕ) : Type 0 where
-  pub records : List Record
-  pub listed : P records
-  pub place : n ≡ from + length (recordLines replies 0 records)
-  pub content : new ≡ sets old from (recordLines replies 0 records)
-
--- The heading and the records' lines are written from the front on, and n is the place after them.
-pub record ListsPlayed (text replies old new : List ℕ) (n : ℕ) : Type 0 where
-  pub records : List Record
-  pub listed : Listed text replies records
-  pub place : n ≡ length (heading ++ recordLines replies 0 records)
-  pub content : new ≡ sets old 0 (heading ++ recordLines replies 0 records)

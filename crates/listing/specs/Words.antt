@@ -1,4 +1,4 @@
--- The words of a listing as bytes (document 01, 'One listing in full').
+-- Believed: The words of a listing as bytes (document 01, 'One listing in full').
 use Prim.Native.Nat.{ℕ}
 use mathlib.Core.List.{List, [], _∷_}
 

@@ -3,9 +3,10 @@
 ghost use mathlib.Core.Path.{_≡_};
 ghost use Prim.Native.Nat.{_≤_};
 ghost use lib.ListN.{length};
-ghost use Rattle.field.specs.Spelling.{room};
+ghost use Rattle.field.specs.Room.{room};
 ghost use Rattle.record.specs.Lengths.{repliesLength};
-ghost use Rattle.listing.specs.Listing.{Listed, ListedFrom, Lists, ListsPlayed, ListsRecords, listingRoom};
+ghost use Rattle.listing.specs.Listing.{Listed, ListedFrom, Lists, listingRoom};
+ghost use Rattle.listing.specs.Writing.{ListsPlayed, ListsRecords};
 
 mod bytes;
 mod lines;
@@ -24,10 +25,10 @@ fn list_from(text: &[u8], first: Cursor, replies: &[u8], out: &mut [u8], from: u
     ensures { λ r. ⌜ ListsRecords (ListedFrom (now (text .entry)) (now (replies .entry)) (first .at) 0) (now (replies .entry)) (now (out .entry)) from (now (out .exit)) r ⌝ }
 {
     let mut at = from;
-    let mut c = first;
+    let mut place = first.at;
     let mut k: usize = 0;
     while k < record::REPLY_PLACES {
-        let ReadRecord::Value(rec, next) = line::read_record(text, c) else {
+        let ReadRecord::Value(rec, next) = text::record_at(text, place) else {
             return at;
         };
         let reply = bytes::reply_at(replies, k);
@@ -38,7 +39,7 @@ fn list_from(text: &[u8], first: Cursor, replies: &[u8], out: &mut [u8], from: u
         let number = (k + 2) as u32;
         let line = lines::record_line(number, rec.stamp, reply, bytes::match_at(replies, k));
         at = output::copy_line(line, out, at);
-        c = next;
+        place = next.at;
         k += 1;
     }
     at

@@ -3,7 +3,8 @@ ghost use mathlib.Core.Path.{_≡_};
 ghost use Prim.Native.Nat.{_+_, _≤_};
 ghost use lib.ListN.{length};
 ghost use lib.Seq.{sets};
-ghost use Rattle.field.specs.Spelling.{held, room};
+ghost use Rattle.field.specs.Spelling.{held};
+ghost use Rattle.field.specs.Room.{room};
 use field::Spelling;
 
 // Copies the bytes held into the output from a place on; the place after them.

@@ -1,1 +1,3 @@
 pub mod Playing
+pub mod FlashWritten
+pub mod EepromWritten

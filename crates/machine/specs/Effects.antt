@@ -1,9 +1,9 @@
--- What the cycles do to the images, whole at `end` and cut by `off` (document 01, 'Flash rules', 'EEPROM rules', 'Supply').
+-- Believed: What the cycles do to the images, whole at `end` and cut by `off` (document 01, 'Flash rules', 'EEPROM rules', 'Supply').
 use Prim.Native.Nat.{ℕ, _+_, _/_, _%_}
 use mathlib.Core.Bool.{Bool, true, not}
 use mathlib.Core.List.{List}
 use lib.Dec.{eqb}
-use Rattle.law.specs.Choice.{pick}
+use Rattle.law.specs.Words.{pick}
 use Rattle.record.specs.declared.Board.{Board}
 use Rattle.record.specs.declared.Chip.{Chip}
 use Rattle.record.specs.declared.Chip.the-variants as chip

@@ -1,4 +1,4 @@
--- The machine as demand 3 speaks of it: what one record does to controls and images, and its reply.
+-- Believed: The machine as demand 3 speaks of it: what one record does to controls and images, and its reply.
 use Rattle.meaning.specs.Meaning.{Channel, F, E, L, Rules}
 use Rattle.record.specs.declared.Board.{Board}
 use Rattle.record.specs.declared.Record.{Record}

@@ -1,8 +1,8 @@
--- A record's reply, and how it compares with what was recorded (document 01, 'Bytes and doubt', 'Replies and stopping').
+-- Believed: A record's reply, and how it compares with what was recorded (document 01, 'Bytes and doubt', 'Replies and stopping').
 use Prim.Native.Nat.{ℕ}
 use mathlib.Core.Bool.{Bool, not}
 use lib.Dec.{eqb}
-use Rattle.law.specs.Choice.{pick}
+use Rattle.law.specs.Words.{pick}
 use Rattle.record.specs.declared.Event.{Event}
 use Rattle.record.specs.declared.Event.the-variants as event
 use Rattle.record.specs.declared.FlashEvent.{FlashEvent}

@@ -1,11 +1,11 @@
--- What the demand says, in its own words. Nothing here computes a replay.
+-- Believed: What the demand says, in its own words. Nothing here computes a replay.
 use mathlib.Core.Path.{_≡_}
 use mathlib.Core.Bool.{Bool, true}
 use mathlib.Core.List.{List, [], _∷_}
 use Prim.Native.Nat.{ℕ, _<_}
 use lib.ListN.{length}
 use lib.Dec.{leb, ltb, eqb}
-use Rattle.law.specs.Lists.{filter, keep, Rising}
+use Rattle.law.specs.Words.{filter, keep, Rising}
 
 pub data Channel : Type 0 where
   F E L : Channel

@@ -14,7 +14,8 @@ use Rattle.record.specs.declared.Record.{Record}
 use Rattle.controls.specs.declared.Controls.{Controls}
 use Rattle.controls.specs.declared.Moved.{Moved}
 use Rattle.controls.specs.Play.{movedOf}
-use Rattle.tied.specs.Orders.{Order, done, busFirst, lineFirst, after, replies, busesFirst, after-reference, replies-reference, reference-two, two-reference, afterBuses, saidBuses, afterLines, AnyTwo, agree-none, none-agree, agree-both, agree-buses, agree-lines, bus-agree, line-agree, reply-agree, rest-agree, agree-rest}
+use Rattle.tied.specs.Orders.{Order, done, busFirst, lineFirst, after, replies, busesFirst, afterBuses, saidBuses, afterLines, AnyTwo}
+use Rattle.tied.proofs.Orders.{after-reference, replies-reference, reference-two, two-reference, agree-none, none-agree, agree-both, agree-buses, agree-lines, bus-agree, line-agree, reply-agree, rest-agree, agree-rest}
 use Rattle.orders.specs.declared.Said.{Said}
 use Rattle.orders.specs.declared.Tied.{Tied}
 use Rattle.orders.specs.declared.Outcome.{Outcome}

@@ -10,7 +10,8 @@ use Rattle.record.specs.declared.Skeleton.{Skeleton}
 use Rattle.controls.specs.declared.Controls.{Controls}
 use Rattle.controls.specs.Play.{lostOf}
 use Rattle.meaning.specs.Meaning.{Channel, F, E, L, same, most}
-use Rattle.tied.specs.Orders.{any-two-seen, afterBuses, afterLines}
+use Rattle.tied.proofs.Orders.{any-two-seen}
+use Rattle.tied.specs.Orders.{afterBuses, afterLines}
 use Rattle.orders.specs.Stamp.{Within, BusesPlayed, Settled, bus, reply, line, played, busesFrom, linesFrom}
 use Rattle.orders.specs.Verdicts.{heldOf, Few, tiedOf, says, OrdersAgree, BusesAgree, lastOf, Judged}
 use Rattle.orders.specs.declared.Said.{Said}

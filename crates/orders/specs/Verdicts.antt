@@ -4,6 +4,8 @@ use mathlib.Core.Bool.{true, false}
 use mathlib.Core.List.{List}
 use Prim.Native.Nat.{ℕ, _≤_, _<_}
 use lib.ListN.{take}
+use Rattle.record.specs.declared.Answer.{Answer}
+use Rattle.record.specs.declared.Answer.the-variants as answer
 use Rattle.record.specs.declared.Board.{Board}
 use Rattle.record.specs.declared.Record.{Record}
 use Rattle.record.specs.declared.Skeleton.{Skeleton}
@@ -62,3 +64,10 @@ Judged b h s Crowded = TooMany h
 Judged b h s Differ = Few h × (BusesAgree b (heldOf h) s → ⊥)
 Judged b h s Lost = Few h × BusesAgree b (heldOf h) s × (lostOf (lastOf b h s) ≡ true)
 Judged b h s Passes = Few h × BusesAgree b (heldOf h) s × (lostOf (lastOf b h s) ≡ false)
+
+-- a verdict as the answer that has its number by the paper; one that passes stops nothing
+abbrev pub verdictAnswer : Verdict → Answer
+verdictAnswer Crowded = answer.Crowded
+verdictAnswer Differ = answer.OrdersDiffer
+verdictAnswer Lost = answer.StatusLost
+verdictAnswer Passes = answer.Settled

@@ -1,4 +1,4 @@
--- The chips' geometry (document 01, 'What is replayed', 'Flash rules', 'EEPROM rules'). Each of its numbers is named here.
+-- Believed: The chips' geometry (document 01, 'What is replayed', 'Flash rules', 'EEPROM rules'). Each of its numbers is named here.
 use Prim.Native.Nat.{ℕ, _*_, _/_}
 
 -- 'low eight address bits roll over inside the page'

@@ -1,4 +1,4 @@
--- The answers of a replay by number (document 01, 'Replies and stopping').
+-- Believed: The answers of a replay by number (document 01, 'Replies and stopping').
 use Prim.Native.Nat.{ℕ}
 use Rattle.record.specs.declared.Answer.{Answer}
 use Rattle.record.specs.declared.Answer.the-variants.{Settled, BadBuffers, TooLong, BadLine, BackInTime, Impossible, Crowded, OrdersDiffer, StatusLost}

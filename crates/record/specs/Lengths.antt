@@ -1,4 +1,4 @@
--- How long the replies and the result are (document 01, 'Replies and stopping').
+-- Believed: How long the replies and the result are (document 01, 'Replies and stopping').
 use Prim.Native.Nat.{ℕ, _/_}
 
 -- refusal 1: 'replies are not 40,000, result not 12'

@@ -7,3 +7,4 @@ pub mod Skeletons
 pub mod LineRules
 pub mod Status
 pub mod Told
+pub mod Records

@@ -1,4 +1,4 @@
--- The supply and the lock net after a line record (document 01, 'Bytes and doubt' for the start, 'Supply').
+-- Believed: The supply and the lock net after a line record (document 01, 'Bytes and doubt' for the start, 'Supply').
 use mathlib.Core.Bool.{Bool, true, false, not}
 use Rattle.record.specs.declared.Lines.{Lines}
 use Rattle.record.specs.declared.LineEvent.{LineEvent}

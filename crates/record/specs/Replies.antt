@@ -1,4 +1,4 @@
--- The four bytes of a reply (document 01, 'Replies and stopping').
+-- Believed: The four bytes of a reply (document 01, 'Replies and stopping').
 use Prim.Native.Nat.{ℕ}
 use mathlib.Core.List.{List, [], _∷_}
 use Rattle.record.specs.declared.Reply.{Reply}

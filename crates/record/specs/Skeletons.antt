@@ -3,7 +3,7 @@ use mathlib.Core.Bool.{Bool}
 use mathlib.Core.Path.{_≡_, refl}
 use lib.Dec.{eqb}
 use Rattle.law.specs.declared.Numbers.{Numbers}
-use Rattle.law.specs.Choice.{pick}
+use Rattle.law.specs.Words.{pick}
 use Rattle.law.specs.Numbers.{numbersOf, by-numbers}
 use Rattle.law.specs.Deciding.{Decides}
 use Rattle.record.specs.declared.Skeleton.{Skeleton}

@@ -1,4 +1,4 @@
--- The flash's status as a board gives it and as WRSR sets it (document 01, 'The trace', 'Flash rules').
+-- Believed: The flash's status as a board gives it and as WRSR sets it (document 01, 'The trace', 'Flash rules').
 use mathlib.Core.Path.{_≡_}
 use Prim.Native.Nat.{ℕ, _/_, _%_, _<_}
 

@@ -1,11 +1,11 @@
--- What is known of a file that was read: how many bytes of it there are, and what was left alone.
+-- What is known of a file that was read: how many bytes of it there are.
 use Prim.Native.Nat.{ℕ, _≤_, _<_}
 use mathlib.Core.Path.{_≡_}
-use mathlib.Core.Logic.{_⊎_}
+use mathlib.Core.Bool.{Bool, false}
 use mathlib.Core.List.{List}
-use lib.ListN.{length, replicate}
+use lib.ListN.{length}
 use Rattle.replay.specs.declared.files.Chunk.{Chunk}
-use Rattle.replay.specs.declared.files.Loaded.{Loaded}
+use Rattle.replay.specs.declared.files.File.{File}
 use Rattle.replay.specs.declared.files.Taken.{Taken}
 
 -- one read into so many bytes: where some came, at least one
@@ -18,12 +18,7 @@ Moves room Chunk.Failed = Unit {0}
 pub record Within (new : List ℕ) (r : Taken) : Type 0 where
   pub within : (n : ℕ) → r ≡ Taken.Bytes n → n ≤ length new
 
--- so do a file's bytes; where there is no file, the buffer stays as it was
-pub record Loads (old new : List ℕ) (r : Loaded) : Type 0 where
-  pub within : (n : ℕ) → r ≡ Loaded.Bytes n → n ≤ length new
-  pub absent : r ≡ Loaded.Absent → new ≡ old
-
--- An image and its mask: it is a dump, which is sure; or there is none, and it is the bytes that were lent, as many as the mask has, with the mask that was lent.
-pub record Dumps (old new oldMask newMask : List ℕ) (r : Taken) : Type 0 where
-  pub within : (n : ℕ) → r ≡ Taken.Bytes n → n ≤ length new
-  pub mask : (n : ℕ) → r ≡ Taken.Bytes n → (newMask ≡ replicate (length oldMask) 0) ⊎ ((n ≡ length oldMask) × (new ≡ old) × (newMask ≡ oldMask))
+-- so do a file's bytes; where there is no file, there is none
+pub record Loads (new : List ℕ) (r : File) : Type 0 where
+  pub within : (there : Bool) (n : ℕ) → r ≡ File.Read there n → n ≤ length new
+  pub absent : (n : ℕ) → r ≡ File.Read false n → n ≡ 0

@@ -1,8 +1,6 @@
-// The files that a replay is read from. Of the bytes that come from outside no promise can speak; of their number and of what else is lent it does.
-ghost use mathlib.Core.Path.{_≡_};
-ghost use Prim.Native.Nat.{_≤_};
-ghost use lib.ListN.{length, replicate};
-ghost use Rattle.replay.specs.Files.{Moves, Within, Loads, Dumps};
+// The files that a replay is read from. Of the bytes that come from outside no promise can speak; of their number it does.
+ghost use lib.ListN.{length};
+ghost use Rattle.replay.specs.Files.{Moves, Within, Loads};
 
 // One read of what is left of a file.
 pub enum Chunk {
@@ -11,16 +9,15 @@ pub enum Chunk {
     Failed,
 }
 
-// What became of a file. One that can't be read was reported on standard error.
-pub enum Loaded {
+// How many bytes of a file there are.
+pub enum Taken {
     Bytes(usize),
-    Absent,
     Unreadable,
 }
 
-// How many bytes there are to replay.
-pub enum Taken {
-    Bytes(usize),
+// What became of a file: whether it is there, and how many bytes were read. One that can't be read was reported on standard error.
+pub enum File {
+    Read(bool, usize),
     Unreadable,
 }
 
@@ -59,61 +56,23 @@ fn read_all(fd: i32, buf: &mut [u8]) -> Taken
     Taken::Bytes(n)
 }
 
-// The bytes of a file, as far as the buffer goes. Any error other than that there is no such file makes it unreadable.
-fn load(path: &[u8], buf: &mut [u8]) -> Loaded
-    ensures { λ r. ⌜ Loads (now (buf .entry)) (now (buf .exit)) r ⌝ }
+// The bytes of a file, as far as the buffer goes; none where there is no such file. Any other error makes it unreadable.
+pub(crate) fn load(path: &[u8], buf: &mut [u8]) -> File
+    ensures { λ r. ⌜ Loads (now (buf .exit)) r ⌝ }
 {
     let fd = os::open_read(path);
     if fd < 0 {
         if os::errno() == libc::ENOENT {
-            return Loaded::Absent;
+            return File::Read(false, 0);
         }
         os::fail(path);
-        return Loaded::Unreadable;
+        return File::Unreadable;
     }
     let Taken::Bytes(n) = read_all(fd, buf) else {
         os::fail(path);
         libc::close(fd);
-        return Loaded::Unreadable;
+        return File::Unreadable;
     };
     libc::close(fd);
-    Loaded::Bytes(n)
-}
-
-// The trace. Where there is none there is no text.
-pub(crate) fn trace(text: &mut [u8]) -> Taken
-    ensures { λ r. ⌜ Within (now (text .exit)) r ⌝ }
-{
-    let loaded = load(b"trace.tsv", text);
-    match loaded {
-        Loaded::Bytes(n) => Taken::Bytes(n),
-        Loaded::Absent => Taken::Bytes(0),
-        Loaded::Unreadable => Taken::Unreadable,
-    }
-}
-
-fn clear(mask: &mut [u8])
-    ensures { λ _. ⌜ now (mask .exit) ≡ replicate (length (now (mask .entry))) 0 ⌝ }
-{
-    let mut k = 0;
-    while k < mask.len() {
-        mask[k] = 0;
-        k += 1;
-    }
-}
-
-// A dump, which is taken as sure, and its length. Where there is none the image and its mask stay as they were lent, and the image has as many bytes as its mask.
-pub(crate) fn dump(path: &[u8], image: &mut [u8], mask: &mut [u8]) -> Taken
-    requires { ⌜ length (now mask) ≤ length (now image) ⌝ }
-    ensures { λ r. ⌜ Dumps (now (image .entry)) (now (image .exit)) (now (mask .entry)) (now (mask .exit)) r ⌝ }
-{
-    let loaded = load(path, image);
-    match loaded {
-        Loaded::Bytes(n) => {
-            clear(mask);
-            Taken::Bytes(n)
-        }
-        Loaded::Absent => Taken::Bytes(mask.len()),
-        Loaded::Unreadable => Taken::Unreadable,
-    }
+    File::Read(true, n)
 }

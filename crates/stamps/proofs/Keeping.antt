@@ -1,7 +1,7 @@
--- One record more is held: once over the most that a channel may have.
+-- What is held of gathered records: one record more, once over the most that a channel may have.
 use mathlib.Core.Path.{_≡_, refl, sym, ap, subst, subst₂, _∙_}
 use mathlib.Core.Bool.{Bool, true, false}
-use mathlib.Core.List.{List, [], _∷_, _++_, append-nil}
+use mathlib.Core.List.{List, [], _∷_, _++_, append-nil, append-assoc}
 use Prim.Native.Nat.{ℕ, _+_, _≤_, _<_}
 use native.Mathlib.Numerals.{add-one}
 use native.Mathlib.Omega.{arith}
@@ -9,10 +9,11 @@ use lib.Dec.{ltb}
 use lib.ListN.{length, set, length-set, length-append}
 use lib.Seq.{take-all, take-suc-set, take-append-le}
 use borrow.Author.Tests.{ltb-true, ltb-false}
-use Rattle.law.specs.Choice.{pick, split}
-use Rattle.law.specs.Lists.{keep, filter, filter-append}
+use Rattle.law.specs.Choice.{split}
+use Rattle.law.specs.Words.{pick, keep, filter}
+use Rattle.law.specs.Lists.{filter-append}
 use Rattle.meaning.specs.Meaning.{Channel, F, E, L, same, most, of}
-use Rattle.meaning.specs.Sums.{mostInAll}
+use Rattle.meaning.specs.Channels.{mostInAll}
 use Rattle.record.specs.declared.Record.{Record}
 use Rattle.record.specs.declared.Board.{Board}
 use Rattle.orders.specs.declared.Held.{Held}
@@ -20,7 +21,19 @@ use Rattle.orders.specs.Verdicts.{countOf, arrayOf}
 use Rattle.machine.specs.Machine.{onMachine, channelOf}
 use Rattle.enough.specs.Enough.{HoldsMost, Holds}
 use Rattle.stamps.specs.declared.Gathered.{Gathered}
-use Rattle.stamps.specs.Gathering.{keptArray, keptCount, arrayWith, countWith, heldBy, heldWith, gatheredWith, nothingGathered, Keeps}
+use Rattle.line.specs.Records.{spelled}
+use Rattle.stamps.specs.Gathering.{keptArray, keptCount, arrayWith, countWith, heldBy, heldWith, gatheredWith, nothingGathered, gatheredAll}
+
+-- the arrays have the lengths that they are declared with
+pub record Sized (g : Gathered) : Type 0 where
+  pub held : (c : Channel) → length (arrayOf (g .held) c) ≡ most c
+  pub records : length (g .records) ≡ mostInAll
+
+-- the records p are gathered
+pub record Keeps (b : Board) (g : Gathered) (p : List Record) : Type 0 where
+  pub sized : Sized g
+  pub held : Holds b (g .held) p
+  pub written : HoldsMost mostInAll (g .count) (g .records) p
 
 -- ---- one channel
 module _ (most count : ℕ) (array xs : List Record) (r : Record) (h : HoldsMost most count array xs) (long : length array ≡ most) where
@@ -97,20 +110,29 @@ module _ (b : Board) (p : List Record) (r : Record) (g : Gathered) (k : Keeps b 
   }
 
 -- ---- nothing is gathered
-none-held : (b : Board) → Holds b (nothingGathered .held) []
-unfolding filter
-none-held b F = record { counts = refl; holds = refl }
-none-held b E = record { counts = refl; holds = refl }
-none-held b L = record { counts = refl; holds = refl }
+module _ (place : ℕ) where
+  none-held : (b : Board) → Holds b (nothingGathered place .held) []
+  unfolding filter
+  none-held b F = record { counts = refl; holds = refl }
+  none-held b E = record { counts = refl; holds = refl }
+  none-held b L = record { counts = refl; holds = refl }
 
-none-long : (c : Channel) → length (arrayOf (nothingGathered .held) c) ≡ most c
-none-long F = refl
-none-long E = refl
-none-long L = refl
+  none-long : (c : Channel) → length (arrayOf (nothingGathered place .held) c) ≡ most c
+  none-long F = refl
+  none-long E = refl
+  none-long L = refl
 
-pub keeps-none : (b : Board) → Keeps b nothingGathered []
-keeps-none b = record {
-  sized = record { held = none-long; records = refl };
-  held = none-held b;
-  written = record { counts = refl; holds = refl };
-}
+  pub keeps-none : (b : Board) → Keeps b (nothingGathered place) []
+  keeps-none b = record {
+    sized = record { held = none-long; records = refl };
+    held = none-held b;
+    written = record { counts = refl; holds = refl };
+  }
+
+-- ---- records more
+pub keeps-all : (b : Board) (q p : List Record) (g : Gathered) → Keeps b g q → Keeps b (gatheredAll g p) (q ++ p)
+unfolding gatheredAll
+keeps-all b q [] g k = subst (Keeps b g) (sym (append-nil q)) k
+keeps-all b q (r ∷ p) g k =
+    subst (Keeps b (gatheredAll g (r ∷ p))) (append-assoc q (r ∷ []) p)
+    (keeps-all b (q ++ (r ∷ [])) p (gatheredWith g r (g .next + length (spelled r))) (keeps-one b q r g k (g .next + length (spelled r))))

@@ -1,3 +1,5 @@
 pub mod Keeping
+pub mod Sharing
 pub mod Turns
 pub mod Judges
+pub mod Found

@@ -1,24 +1,22 @@
 -- The records of one stamp, held together (document 01, 'Replies and stopping'): above the most that a channel may have, only that there are more is kept.
 use mathlib.Core.Path.{_≡_}
-use mathlib.Core.Logic.{_⊎_}
-use mathlib.Core.List.{List, [], _∷_, _++_}
-use Prim.Native.Nat.{ℕ, _+_, _≤_}
-use lib.Dec.{ltb}
-use lib.ListN.{length, drop, set, replicate}
-use Rattle.law.specs.Choice.{pick}
-use Rattle.law.specs.Lists.{All}
+use mathlib.Core.Bool.{Bool, false}
+use mathlib.Core.List.{List, [], _∷_}
+use Prim.Native.Nat.{ℕ, _+_}
+use lib.Dec.{eqb, ltb}
+use lib.ListN.{length, set, replicate}
+use Rattle.law.specs.Words.{pick}
 use Rattle.meaning.specs.Meaning.{Channel, F, E, L, same, most}
-use Rattle.meaning.specs.Sums.{mostInAll}
+use Rattle.meaning.specs.Channels.{mostInAll}
 use Rattle.record.specs.declared.Record.{Record}
-use Rattle.record.specs.declared.Board.{Board}
 use Rattle.record.specs.declared.Event.the-variants as event
 use Rattle.record.specs.declared.LineEvent.the-variants.{SupplyOn}
-use Rattle.line.specs.Records.{RecordOk}
+use Rattle.field.specs.Reads.{Stands}
+use Rattle.line.specs.declared.records.ReadRecord.{ReadRecord}
+use Rattle.line.specs.Records.{spelled, RecordOk}
 use Rattle.orders.specs.declared.Held.{Held}
 use Rattle.orders.specs.Verdicts.{countOf, arrayOf}
 use Rattle.machine.specs.Machine.{channelOf}
-use Rattle.text.specs.Texts.{spelledAll}
-use Rattle.enough.specs.Enough.{HoldsMost, Holds}
 use Rattle.stamps.specs.declared.Gathered.{Gathered}
 
 -- one record more in an array of so many, of which `count` are used
@@ -53,8 +51,9 @@ heldWith h r = heldBy (channelOf (r .event)) h r
 abbrev pub noRecord : Record
 noRecord = record { stamp = 0; event = event.Line SupplyOn }
 
-abbrev pub nothingGathered : Gathered
-nothingGathered = record {
+-- nothing is gathered, and the first record stands at the place
+abbrev pub nothingGathered : ℕ → Gathered
+nothingGathered place = record {
   held = record {
     flash = replicate (most F) noRecord;
     «flash_count» = 0;
@@ -65,7 +64,7 @@ nothingGathered = record {
   };
   records = replicate mostInAll noRecord;
   count = 0;
-  next = 0;
+  next = place;
 }
 
 -- one record more, the next one's place is given; a stamp that is not crowded has no more than `mostInAll`
@@ -77,33 +76,29 @@ gatheredWith g r next = record {
   next = next;
 }
 
--- the arrays have the lengths that they are declared with
-pub record Sized (g : Gathered) : Type 0 where
-  pub held : (c : Channel) → length (arrayOf (g .held) c) ≡ most c
-  pub records : length (g .records) ≡ mostInAll
+-- whether what was read is a record of the stamp t
+abbrev pub isOf : ℕ → ReadRecord → Bool
+isOf t (ReadRecord.Value r c) = eqb (r .stamp) t
+isOf t ReadRecord.Bad = false
 
--- the records p are gathered
-pub record Keeps (b : Board) (g : Gathered) (p : List Record) : Type 0 where
-  pub sized : Sized g
-  pub held : Holds b (g .held) p
-  pub written : HoldsMost mostInAll (g .count) (g .records) p
+-- a record that was read is one more
+abbrev pub gatheredRead : Gathered → ReadRecord → Gathered
+gatheredRead g (ReadRecord.Value r c) = gatheredWith g r (c .at)
+gatheredRead g ReadRecord.Bad = g
 
--- of the records rs that stand from a place on, those of the stamp t are q; rest is left from the place `next` on
-pub record Taken (text : List ℕ) (t : ℕ) (rs : List Record) (next : ℕ) : Type 0 where
-  pub q : List Record
-  pub rest : List Record
-  pub whole : rs ≡ q ++ rest
-  pub same : All (λ (r : Record). r .stamp ≡ t) q
-  pub ok : All RecordOk rest
-  pub left : drop next text ≡ spelledAll rest
+-- records more, of which each stands behind the one before it
+unfoldable pub gatheredAll : Gathered → List Record → Gathered
+gatheredAll g [] = g
+gatheredAll g (r ∷ p) = gatheredAll (gatheredWith g r (g .next + length (spelled r))) p
 
--- what comes next is of another stamp, if anything does
-pub record Over (t : ℕ) (rest : List Record) : Type 0 where
-  pub over : (rest ≡ []) ⊎ ((r : Record) × (l : List Record) × (rest ≡ r ∷ l) × (r .stamp ≡ t → ⊥))
+-- Which records share the stamp t from a place of the text on: each one that stands there and is of that stamp, and then the one that stands
+-- behind it; none any more where none stands, or the one that does is of another stamp.
+unfoldable pub Shares : List ℕ → ℕ → ℕ → List Record → Type 0
+Shares text t at [] = (r : Record) → RecordOk r → Stands text at (spelled r) → r .stamp ≡ t → ⊥
+Shares text t at (r ∷ p) = RecordOk r × Stands text at (spelled r) × (r .stamp ≡ t) × Shares text t (at + length (spelled r)) p
 
--- the gathering went on from `first`: whatever records stood there, those of the stamp are gathered behind what was gathered before
+-- the gathering went on from `first`: those that share the stamp from there on are gathered
 pub record Gathers (text : List ℕ) (t : ℕ) (first g : Gathered) : Type 0 where
-  pub onward : first .next ≤ g .next
-  pub inside : first .next ≤ length text → g .next ≤ length text
-  pub taken : (b : Board) (p rs : List Record) → All RecordOk rs → drop (first .next) text ≡ spelledAll rs → Keeps b first p →
-      (k : Taken text t rs (g .next)) × Keeps b g (p ++ k .q) × Over t (k .rest)
+  pub records : List Record
+  pub shares : Shares text t (first .next) records
+  pub gathered : g ≡ gatheredAll first records

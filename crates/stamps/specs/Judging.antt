@@ -1,39 +1,25 @@
--- What is found at the stamp of the record at a place of a readable text.
-use mathlib.Core.Path.{_≡_}
-use mathlib.Core.List.{List, _∷_, _++_}
-use Prim.Native.Nat.{ℕ, _+_, _≤_, _<_}
-use lib.ListN.{length, drop}
-use Rattle.law.specs.Lists.{All}
-use Rattle.meaning.specs.Sums.{mostInAll}
+-- What is found at the stamp of the record at a place of a text.
+use mathlib.Core.List.{List, _∷_}
+use Prim.Native.Nat.{ℕ}
 use Rattle.record.specs.declared.Record.{Record}
 use Rattle.record.specs.declared.Board.{Board}
+use Rattle.field.specs.Reads.{Stands}
+use Rattle.line.specs.Records.{spelled, RecordOk}
 use Rattle.controls.specs.declared.Controls.{Controls}
-use Rattle.line.specs.Records.{RecordOk}
-use Rattle.orders.specs.declared.Held.{Held}
-use Rattle.orders.specs.declared.Verdict.the-variants as verdict
+use Rattle.orders.specs.declared.Verdict.{Verdict}
+use Rattle.orders.specs.declared.Verdict.the-variants.{Crowded}
 use Rattle.orders.specs.Verdicts.{Judged}
-use Rattle.text.specs.Texts.{spelledAll}
-use Rattle.enough.specs.Enough.{HoldsMost, Holds}
+use Rattle.stamps.specs.declared.Gathered.{Gathered}
 use Rattle.stamps.specs.declared.Judgement.{Judgement}
-use Rattle.stamps.specs.Gathering.{Over}
+use Rattle.stamps.specs.Gathering.{nothingGathered, gatheredAll, Shares}
 
--- the records rs from the place on begin with those of one stamp, p; they are held and judged, and rest is left behind them
-pub record Found (text : List ℕ) (b : Board) (c : Controls) (rs : List Record) (j : Judgement) : Type 0 where
-  pub first : Record
-  pub others : List Record
-  pub rest : List Record
-  pub whole : rs ≡ (first ∷ others) ++ rest
-  pub same : All (λ (r : Record). r .stamp ≡ j .stamp) (first ∷ others)
-  pub over : Over (j .stamp) rest
-  pub ok : All RecordOk rest
-  pub left : drop (j .next) text ≡ spelledAll rest
-  pub held : Held
-  pub holds : Holds b held (first ∷ others)
-  pub judged : Judged b held c (j .verdict)
-  pub written : HoldsMost mostInAll (j .count) (j .records) (first ∷ others)
-  pub long : length (j .records) ≡ mostInAll
+-- a verdict on the stamp t with what was gathered of it
+abbrev pub judgement : Verdict → ℕ → Gathered → Judgement
+judgement v t g = record { verdict = v; records = g .records; count = g .count; next = g .next; stamp = t }
 
-pub record JudgesAt (text : List ℕ) (place : ℕ) (b : Board) (c : Controls) (j : Judgement) : Type 0 where
-  -- where the stamp passes, the next one is further on
-  pub onward : j .verdict ≡ verdict.Passes → (place + 7 ≤ j .next) × (j .next ≤ length text)
-  pub found : (rs : List Record) → All RecordOk rs → drop place text ≡ spelledAll rs → place < length text → Found text b c rs j
+-- The records that share the stamp of the one at the place are gathered and judged. Where no record stands nothing is gathered, and the verdict is
+-- one that does not pass, since there the replay cannot go on: no place comes next. In a readable text a record stands at every place that is asked of.
+pub data JudgesAt (text : List ℕ) (place : ℕ) (b : Board) (c : Controls) : Judgement → Type 0 where
+  nothing : ((r : Record) → RecordOk r → Stands text place (spelled r) → ⊥) → JudgesAt text place b c (judgement Crowded 0 (nothingGathered place))
+  found : (r : Record) (p : List Record) (v : Verdict) → Shares text (r .stamp) place (r ∷ p) → Judged b (gatheredAll (nothingGathered place) (r ∷ p) .held) c v →
+      JudgesAt text place b c (judgement v (r .stamp) (gatheredAll (nothingGathered place) (r ∷ p)))

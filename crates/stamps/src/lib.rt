@@ -1,8 +1,8 @@
 // One stamp of a text: its records are read, held together and judged, before anything is played.
 ghost use mathlib.Core.Path.{_≡_};
 ghost use Rattle.meaning.specs.Meaning.{F, E, L, most};
-ghost use Rattle.meaning.specs.Sums.{mostInAll};
-ghost use Rattle.stamps.specs.Gathering.{keptArray, keptCount, heldBy, heldWith, gatheredWith, nothingGathered, Gathers};
+ghost use Rattle.meaning.specs.Channels.{mostInAll};
+ghost use Rattle.stamps.specs.Gathering.{keptArray, keptCount, heldBy, heldWith, gatheredWith, nothingGathered, isOf, gatheredRead, Gathers};
 ghost use Rattle.stamps.specs.Judging.{JudgesAt};
 use controls::Controls;
 use line::ReadRecord;
@@ -173,8 +173,9 @@ fn gather_one(g: Gathered, rec: Record, next: usize) -> Gathered
     }
 }
 
-fn none_gathered() -> Gathered
-    ensures { λ r. ⌜ r ≡ nothingGathered ⌝ }
+// Nothing yet; the first record stands at `next`.
+fn none_gathered(next: usize) -> Gathered
+    ensures { λ r. ⌜ r ≡ nothingGathered next ⌝ }
 {
     let none = Record {
         stamp: 0,
@@ -192,24 +193,41 @@ fn none_gathered() -> Gathered
         held: held,
         records: [none; orders::MOST_IN_ALL],
         count: 0,
-        next: 0,
+        next: next,
     }
 }
 
-// The records of a stamp, from those that `first` has on.
+// Whether a record was read, and is of the stamp.
+fn shares(read: ReadRecord, stamp: u32) -> bool
+    ensures { λ r. ⌜ r ≡ isOf stamp read ⌝ }
+{
+    match read {
+        ReadRecord::Value(rec, _) => rec.stamp == stamp,
+        ReadRecord::Bad => false,
+    }
+}
+
+// The record that was read is one more; where none was, all stays.
+fn gather_read(g: Gathered, read: ReadRecord) -> Gathered
+    ensures { λ r. ⌜ r ≡ gatheredRead g read ⌝ }
+{
+    match read {
+        ReadRecord::Value(rec, c) => gather_one(g, rec, c.at),
+        ReadRecord::Bad => g,
+    }
+}
+
+// The records of a stamp, from those that `first` has on: the reader reads, and is moved behind what it read.
 fn gather(text: &[u8], first: Gathered, stamp: u32) -> Gathered
     ensures { λ r. ⌜ Gathers (now (text .entry)) stamp first r ⌝ }
 {
     let mut g = first;
-    while g.next < text.len() {
-        let at = g.next;
-        let ReadRecord::Value(rec, c) = text::record_at(text, at) else {
-            return g;
-        };
-        if rec.stamp != stamp {
-            return g;
-        }
-        g = gather_one(g, rec, c.at);
+    let mut reader = text::reader_at(text, first.next);
+    let mut read = text::next_record(reader);
+    while shares(read, stamp) {
+        g = gather_read(g, read);
+        reader = text::moved_to(reader, g.next);
+        read = text::next_record(reader);
     }
     g
 }
@@ -223,11 +241,11 @@ pub struct Judgement {
     pub stamp: u32,
 }
 
-// Where no record stands the answer is not to be used: in a readable text one stands at every place that this is asked of.
+// Where no record stands the stamp does not pass: nothing comes next. In a readable text one stands at every place that this is asked of.
 pub fn judge_at(text: &[u8], place: usize, board: Board, controls: Controls) -> Judgement
     ensures { λ r. ⌜ JudgesAt (now (text .entry)) place board controls r ⌝ }
 {
-    let none = none_gathered();
+    let none = none_gathered(place);
     let ReadRecord::Value(first, c) = text::record_at(text, place) else {
         let records = none.records;
         return Judgement {

@@ -5,7 +5,8 @@ use mathlib.Core.Path.{_≡_, refl, sym, ap, ap₂, subst, _∙_}
 use mathlib.Core.List.{List, [], _∷_, _++_, append-assoc, append-nil}
 use lib.ListN.{length, drop}
 use lib.Seq.{drop-append-seam}
-use Rattle.law.specs.Lists.{All, all-append, RisingFrom, from-rising, rising-from}
+use Rattle.law.specs.Lists.{all-append, RisingFrom, from-rising, rising-from}
+use Rattle.law.specs.Words.{All}
 use Rattle.record.specs.declared.Record.{Record}
 use Rattle.line.specs.Records.{spelled, RecordOk}
 use Rattle.line.proofs.Theorems.{one-record}

@@ -3,3 +3,4 @@ pub mod Goods
 pub mod OneReading
 pub mod Standing
 pub mod Theorems
+pub mod SomeReading

@@ -1,6 +1,7 @@
--- Impossible records (document 01, 'The trace', refusal 5), judged in file order for each channel by itself, whatever the supply.
+-- Believed: Impossible records (document 01, 'The trace', refusal 5), judged in file order for each channel by itself, whatever the supply.
 use mathlib.Core.Path.{_≡_}
 use mathlib.Core.List.{List, [], _∷_}
+use Rattle.record.specs.declared.Answer.{Answer}
 use Rattle.record.specs.declared.FlashEvent.{FlashEvent}
 use Rattle.record.specs.declared.EepromEvent.{EepromEvent}
 use Rattle.record.specs.declared.Event.{Event}
@@ -85,3 +86,8 @@ Possible m = (b : Buses) × (m ≡ Moves.To b)
 -- a record that cannot come after those of the list
 abbrev pub ImpossibleAfter : List Record → Record → Type 0
 ImpossibleAfter rs r = onwards (busesAfter rs) (r .event) ≡ Moves.Impossible
+
+-- by the paper's answers: 5 for an impossible record, 0 (nothing is refused) for one that can come
+abbrev pub movesAnswer : Moves → Answer
+movesAnswer Moves.Impossible = Answer.Impossible
+movesAnswer (Moves.To b) = Answer.Settled

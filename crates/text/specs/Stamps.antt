@@ -1,4 +1,4 @@
--- The stamp that the next record is held against (document 01, refusal 4).
+-- Believed: The stamp that the next record is held against (document 01, refusal 4).
 use Prim.Native.Nat.{ℕ}
 use mathlib.Core.List.{List, [], _∷_}
 use Rattle.record.specs.declared.Record.{Record}

@@ -1,19 +1,22 @@
--- A text that can be replayed, and the first bad line of one that can't (document 01, 'The trace', refusals 2 to 5).
+-- Believed: A text that can be replayed, and the first bad line of one that can't (document 01, 'The trace', refusals 2 to 5).
 use Prim.Native.Nat.{ℕ, _+_, _≤_, _<_}
 use mathlib.Core.Path.{_≡_}
 use mathlib.Core.Logic.{_⊎_}
 use mathlib.Core.List.{List, [], _∷_, _++_}
 use lib.ListN.{length}
-use Rattle.law.specs.Lists.{All, Rising}
+use Rattle.law.specs.Words.{All, Rising}
 use Rattle.record.specs.declared.Record.{Record}
 use Rattle.record.specs.declared.Board.{Board}
 use Rattle.record.specs.declared.Answer.{Answer}
-use Rattle.record.specs.declared.Answer.the-variants.{BadLine, BackInTime, Impossible}
+use Rattle.record.specs.declared.Answer.the-variants.{BackInTime}
 use Rattle.field.specs.Reads.{Stands}
-use Rattle.line.specs.Records.{spelled, RecordOk}
-use Rattle.line.specs.Boards.{spelledBoard, BoardOk}
+use Rattle.line.specs.declared.records.ReadRecord.{ReadRecord}
+use Rattle.line.specs.declared.boards.ReadBoard.{ReadBoard}
+use Rattle.line.specs.Records.{spelled, RecordOk, recordAnswer}
+use Rattle.line.specs.Boards.{spelledBoard, BoardOk, boardAnswer}
+use Rattle.text.specs.declared.buses.Moves.{Moves}
 use Rattle.text.specs.declared.checking.Checked.{Checked}
-use Rattle.text.specs.Buses.{busesAfter, Possible, ImpossibleAfter}
+use Rattle.text.specs.Buses.{busesAfter, Possible, ImpossibleAfter, movesAnswer}
 use Rattle.text.specs.Stamps.{lastStamp}
 
 -- text of at most 65,536 bytes
@@ -49,13 +52,13 @@ pub record Front (text : List ℕ) (b : Board) (rs : List Record) : Type 0 where
 -- what is wrong with the line at a place, after the records rs: something is there and it is no record's line; or it is one, and falls back in time;
 -- or does not, and is impossible
 pub data Wrong (text : List ℕ) (at : ℕ) (rs : List Record) : Answer → Type 0 where
-  noRecord : at < length text → ((r : Record) → RecordOk r → Stands text at (spelled r) → ⊥) → Wrong text at rs BadLine
+  noRecord : at < length text → ((r : Record) → RecordOk r → Stands text at (spelled r) → ⊥) → Wrong text at rs (recordAnswer ReadRecord.Bad)
   falls : (r : Record) → RecordOk r → Stands text at (spelled r) → r .stamp < lastStamp 0 rs → Wrong text at rs BackInTime
-  cannot : (r : Record) → RecordOk r → Stands text at (spelled r) → lastStamp 0 rs ≤ r .stamp → ImpossibleAfter rs r → Wrong text at rs Impossible
+  cannot : (r : Record) → RecordOk r → Stands text at (spelled r) → lastStamp 0 rs ≤ r .stamp → ImpossibleAfter rs r → Wrong text at rs (movesAnswer Moves.Impossible)
 
 -- the first bad line and its number: line 1 is no board's (no text too), or a later line is wrong and all before it are good
 pub data Refused (text : List ℕ) : Answer → ℕ → Type 0 where
-  noBoard : ((b : Board) → BoardOk b → Stands text 0 (spelledBoard b) → ⊥) → Refused text BadLine 1
+  noBoard : ((b : Board) → BoardOk b → Stands text 0 (spelledBoard b) → ⊥) → Refused text (boardAnswer ReadBoard.Bad) 1
   badLine : {a : Answer} (b : Board) (rs : List Record) → Front text b rs → Wrong text (length (spelledTrace b rs)) rs a → Refused text a (length rs + 2)
 
 -- the answer of the check: a text is readable or refused, and the answer says which and how

@@ -38,7 +38,7 @@ pub fn check_text(text: &[u8]) -> Checked
     let mut last: u32 = 0;
     let mut buses = crate::buses::all_closed();
     while at < text.len() {
-        let ReadRecord::Value(rec, next) = line::read_record(text, Cursor { at }) else {
+        let ReadRecord::Value(rec, next) = crate::reader::record_at(text, at) else {
             return Checked::Refused(Answer::BadLine, number);
         };
         if rec.stamp < last {

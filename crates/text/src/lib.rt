@@ -10,6 +10,5 @@ pub use checking::too_long;
 pub use reader::Reader;
 pub use reader::moved_to;
 pub use reader::next_record;
-pub use reader::place_of;
 pub use reader::reader_at;
 pub use reader::record_at;

@@ -23,13 +23,6 @@ pub fn reader_at<'a>(text: &'a [u8], at: usize) -> Reader<'a>
     Reader { text, at }
 }
 
-// Its own place.
-pub fn place_of<'a>(r: Reader<'a>) -> usize
-    ensures { λ n. ⌜ n ≡ r .entry .at ⌝ }
-{
-    r.at
-}
-
 // The record that stands at its place, with the place after it, or that there is none.
 pub fn next_record<'a>(r: Reader<'a>) -> ReadRecord
     ensures { λ s. ⌜ ReadsRecord (now (r .entry .text)) (r .entry .at) s ⌝ }

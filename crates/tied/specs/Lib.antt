@@ -1,4 +1,3 @@
--- Records that share a stamp.
+-- Records that share a stamp: their orders, and what a control is.
 pub mod Orders
 pub mod Control
-pub mod Parts

@@ -1,13 +1,12 @@
 -- `buffers::fits_all`: each ground of refusal 1 by the test that finds it. Assumes nothing.
 use mathlib.Core.Path.{sym, _∙_}
-use borrow.Author.Tests.{not-true, not-false}
+use borrow.Author.Tests.{not-true, not-false, eq-eqb, ne-eqb}
 use Rattle.law.specs.Choice.{via}
 use Rattle.image.specs.Image.{imageOf}
 use Rattle.record.specs.declared.Chip.{Chip}
 use Rattle.image.specs.Images.{keptBytes}
 use Rattle.image.proofs.Fitting.{spans-values, spans-masks}
 use Rattle.buffers.specs.Buffers.{fit}
-use borrow.Author.Tests.{eq-eqb, ne-eqb}
 use borrow.Author.Needs.{needs}
 use Rattle.buffers.proofs.fits_all.Statement.{statement}
 use Rattle.buffers.proofs.fits_all.Tie as tie

@@ -1,6 +1,6 @@
 -- `buffers::put_reply`: the reply's four bytes at its place. Assumes nothing.
 use borrow.Author.Tests.{le-ltb, lt-ltb, ne-eqb}
-use Rattle.buffers.specs.Buffers.{repliesWith}
+use Rattle.buffers.specs.Put.{repliesWith}
 use Rattle.buffers.proofs.Replies.{reply-stored}
 use borrow.Author.Needs.{needs}
 use Rattle.buffers.proofs.put_reply.Statement.{statement}

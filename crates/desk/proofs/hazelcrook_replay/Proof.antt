@@ -1,7 +1,7 @@
 use borrow.Author.Tests.{not-true, not-false, ltb-false}
 use Rattle.law.specs.Choice.{via}
 use Rattle.buffers.proofs.Fit.{fit-says}
-use Rattle.walk.specs.Ends.{replays-unfit, replays-long, replays-bad, replays-played}
+use Rattle.walk.proofs.Ends.{replays-unfit, replays-long, replays-bad, replays-played}
 use borrow.Author.Needs.{needs}
 use Rattle.desk.proofs.hazelcrook_replay.Statement.{statement}
 use Rattle.desk.proofs.hazelcrook_replay.Tie as tie

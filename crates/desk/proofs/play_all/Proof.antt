@@ -3,9 +3,9 @@ use native.Mathlib.Omega.{arith}
 use Prim.Native.Nat.{_+_, _-_, _≤_}
 use mathlib.Core.Path.{_≡_, refl}
 use lib.ListN.{length, take, drop}
-use Rattle.meaning.specs.Sums.{mostInAll}
+use Rattle.meaning.specs.Channels.{mostInAll}
 use Rattle.image.specs.Images.{imagesOf}
-use Rattle.call.specs.Play.{deskOf, runDesk}
+use Rattle.call.specs.Steps.{deskOf, runDesk}
 use Rattle.call.proofs.Playing.{turn, turned}
 use Rattle.desk.proofs.play_all.Statement.{statement}
 use Rattle.desk.proofs.play_all.Tie as tie

@@ -1,7 +1,7 @@
 use Prim.Native.Nat.{ℕ}
 use mathlib.Core.Path.{ap, _∙_}
 use lib.ListN.{replicate}
-use Rattle.walk.specs.Ends.{runs-written}
+use Rattle.walk.proofs.Ends.{runs-written}
 use borrow.Author.Needs.{needs}
 use Rattle.desk.proofs.replay.Statement.{statement}
 use Rattle.desk.proofs.replay.Tie as tie

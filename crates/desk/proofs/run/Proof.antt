@@ -6,8 +6,9 @@ use mathlib.Core.Path.{_≡_, refl}
 use lib.ListN.{length}
 use Rattle.law.specs.Choice.{via}
 use Rattle.image.specs.Images.{imagesOf}
-use Rattle.call.specs.Play.{deskOf}
-use Rattle.walk.specs.Loop.{ComesTo, comes-first, comes-next, runs-stops, runs-out, goes-passes}
+use Rattle.call.specs.Steps.{deskOf}
+use Rattle.stamps.proofs.Found.{onward}
+use Rattle.walk.proofs.Loop.{ComesTo, comes-first, comes-next, runs-stops, runs-out, goes-passes}
 use Rattle.desk.proofs.run.Statement.{statement}
 use Rattle.desk.proofs.run.Tie as tie
 
@@ -69,14 +70,14 @@ play-all-requires c κs =
 
 loop-less : tie.Need-loop-less Inv-loop μ-loop
 loop-less c =
-    let o = c .before .before .before .before .before .before .before .before .before .before .before .before .before .before .before .before .before .before .before .before .before .judge-at .ensures .onward (goes-passes _ (via (c .before .before .before .before .before .before .before .before .before .before .before .before .before .before .before .before .before .before .before .before .passes .ensures) (not-false _ (c .before .before .before .before .before .before .before .before .before .before .before .before .before .before .before .before .before .before .before .if1 .left)))) in
+    let o = onward (c .before .before .before .before .before .before .before .before .before .before .before .before .before .before .before .before .before .before .before .before .before .judge-at .ensures) (goes-passes _ (via (c .before .before .before .before .before .before .before .before .before .before .before .before .before .before .before .before .before .before .before .before .passes .ensures) (not-false _ (c .before .before .before .before .before .before .before .before .before .before .before .before .before .before .before .before .before .before .before .if1 .left)))) in
     omega (arith, o .0, o .1, c .before .before .before .before .before .before .before .before .before .before .before .before .before .before .before .before .before .before .before .before .before .before .loop-test .taken)
 
 loop-again : tie.Need-loop-again Inv-loop μ-loop
 loop-again c =
     let i = c .before .before .before .before .before .before .before .before .before .before .before .before .before .before .before .before .before .before .before .before .before .before .before .loop .inv in
     let g = via (c .before .before .before .before .before .before .before .before .before .before .before .before .before .before .before .before .before .before .before .before .passes .ensures) (not-false _ (c .before .before .before .before .before .before .before .before .before .before .before .before .before .before .before .before .before .before .before .if1 .left)) in
-    let o = c .before .before .before .before .before .before .before .before .before .before .before .before .before .before .before .before .before .before .before .before .before .judge-at .ensures .onward (goes-passes _ g) in
+    let o = onward (c .before .before .before .before .before .before .before .before .before .before .before .before .before .before .before .before .before .before .before .before .before .judge-at .ensures) (goes-passes _ g) in
     let p = c .before .before .before .before .before .before .before .before .before .before .before .play-all .ensures in (
       omega (arith, i .0, o .0, p .1 .0),
       omega (arith, i .1, o .0, p .1 .1),

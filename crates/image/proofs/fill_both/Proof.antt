@@ -1,5 +1,5 @@
 use mathlib.Core.Path.{_≡_, sym, _∙_}
-use Rattle.law.specs.Places.{byPlace}
+use Rattle.law.specs.Words.{byPlace}
 use Rattle.image.specs.Image.{imageOf, eachPlace, onImage}
 use Rattle.image.proofs.Fitting.{lengths-fit, lengths-unfit, on-fit, on-unfit}
 use borrow.Author.Needs.{needs}

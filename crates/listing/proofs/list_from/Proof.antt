@@ -13,16 +13,16 @@ use Rattle.listing.proofs.list_from.Statement.{statement}
 use Rattle.listing.proofs.list_from.Tie as tie
 
 abbrev Inv-loop : tie.InvT-loop
-Inv-loop text replies out₀ from at₀ c₀ k₀ out at c k = (k ≤ replyPlaces) × (length out ≡ length out₀) × So text (c₀ .at) replies out₀ at₀ out at (c .at) k
+Inv-loop text replies out₀ from at₀ place₀ k₀ out at place k = (k ≤ replyPlaces) × (length out ≡ length out₀) × So text place₀ replies out₀ at₀ out at place k
 
 abbrev μ-loop : tie.MeasureT-loop
-μ-loop text replies out₀ from at₀ c₀ k₀ out at c k = replyPlaces - k
+μ-loop text replies out₀ from at₀ place₀ k₀ out at place k = replyPlaces - k
 
 loop-holds : tie.Need-loop-holds Inv-loop μ-loop
 loop-holds c = (omega arith, refl, begun _ _ _ _ _)
 
-read-record-requires : tie.Need-read-record-requires Inv-loop μ-loop
-read-record-requires c κs = search needs
+record-at-requires : tie.Need-record-at-requires Inv-loop μ-loop
+record-at-requires c κs = search needs
 
 enum-known-rec : tie.Need-enum-known-rec Inv-loop μ-loop
 enum-known-rec c = search needs
@@ -34,7 +34,7 @@ same-length : tie.Need-same-length Inv-loop μ-loop
 same-length c = c .before .before .before .before .loop .inv .1
 
 returns : tie.Need-returns Inv-loop μ-loop
-returns c = over (c .before .before .before .before .loop .inv .2) (λ r o s. absurd (got-none tells-record (c .before .before .read-record .ensures) (c .enum-told .given .1) r o s))
+returns c = over (c .before .before .before .before .loop .inv .2) (λ r o s. absurd (got-none tells-record (c .before .before .record-at .ensures) (c .enum-told .given .1) r o s))
 
 reply-at-requires : tie.Need-reply-at-requires Inv-loop μ-loop
 reply-at-requires c κs = omega arith
@@ -61,7 +61,7 @@ record-line-requires : tie.Need-record-line-requires Inv-loop μ-loop
 record-line-requires c κs = search needs
 
 copy-line-requires : tie.Need-copy-line-requires Inv-loop μ-loop
-copy-line-requires c κs = let g = got-one tells-record (c .before .before .before .before .before .before .before .before .before .read-record .ensures) _ _ (c .before .before .before .before .before .before .before .rec .given .1) in
+copy-line-requires c κs = let g = got-one tells-record (c .before .before .before .before .before .before .before .before .before .record-at .ensures) _ _ (c .before .before .before .before .before .before .before .rec .given .1) in
     (fits _ (c .before .record-line .ensures) (record-length _ _ (omega arith) (g .ok .0) _ _), omega (arith, c .before .before .before .before .before .before .before .before .before .before .before .loop .inv .2 .space))
 
 add-k : tie.Need-add-k Inv-loop μ-loop
@@ -71,7 +71,7 @@ loop-less : tie.Need-loop-less Inv-loop μ-loop
 loop-less c = omega arith
 
 loop-again : tie.Need-loop-again Inv-loop μ-loop
-loop-again c = (omega arith, omega arith, onward (c .before .before .before .before .before .before .before .before .before .before .before .before .before .before .loop .inv .2) (c .before .before .before .before .before .before .before .before .reply-at .ensures) (c .before .before .before .before .before .before .before .was-played .ensures) (c .before .before .before .before .before .before .if1 .left) (got-one tells-record (c .before .before .before .before .before .before .before .before .before .before .before .before .read-record .ensures) _ _ (c .before .before .before .before .before .before .before .before .before .before .rec .given .1)) (c .before .before .before .before .before .match-at .ensures) (c .before .before .before .before .before .before .before .before .before .before .before .before .before .loop-test .taken) (c .before .before .before .before .record-line .ensures) (c .before .before .copy-line .ensures .0) (c .before .before .copy-line .ensures .1))
+loop-again c = (omega arith, omega arith, onward (c .before .before .before .before .before .before .before .before .before .before .before .before .before .before .loop .inv .2) (c .before .before .before .before .before .before .before .before .reply-at .ensures) (c .before .before .before .before .before .before .before .was-played .ensures) (c .before .before .before .before .before .before .if1 .left) (got-one tells-record (c .before .before .before .before .before .before .before .before .before .before .before .before .record-at .ensures) _ _ (c .before .before .before .before .before .before .before .before .before .before .rec .given .1)) (c .before .before .before .before .before .match-at .ensures) (c .before .before .before .before .before .before .before .before .before .before .before .before .before .loop-test .taken) (c .before .before .before .before .record-line .ensures) (c .before .before .copy-line .ensures .0) (c .before .before .copy-line .ensures .1))
 
 same-length-3 : tie.Need-same-length-3 Inv-loop μ-loop
 same-length-3 c = c .before .loop .inv .1
@@ -86,7 +86,7 @@ list-from-spec =
     Inv-loop
     μ-loop
     loop-holds
-    read-record-requires
+    record-at-requires
     enum-known-rec
     enum-told
     same-length

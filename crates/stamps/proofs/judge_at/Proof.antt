@@ -16,7 +16,7 @@ enum-told : tie.Need-enum-told
 enum-told c = search needs
 
 returns : tie.Need-returns
-returns c = judges-none _ _ _ _ _ (c .before .before .before .record-at .ensures) (c .before .enum-told .given .1) _
+returns c = judges-none _ _ _ _ _ (c .before .before .before .record-at .ensures) _ (c .before .before .before .before .none-gathered .ensures) (c .before .enum-told .given .1)
 
 gather-one-requires : tie.Need-gather-one-requires
 gather-one-requires c κs = search needs
@@ -29,8 +29,8 @@ judge-requires c κs = search needs
 
 returns-2 : tie.Need-returns-2
 returns-2 c =
-    judges-some _ _ _ _ _ (c .before .before .before .before .before .before .before .before .record-at .ensures) _ _ (c .before .before .before .before .before .before .first .given .1) _ _ _
-    (c .before .before .before .before .before .before .before .before .before .none-gathered .ensures) (c .before .before .before .before .gather-one .ensures) (c .before .before .before .gather .ensures) _ (c .judge .ensures)
+    judges-some _ _ _ _ _ (c .before .before .before .before .before .before .before .before .record-at .ensures) _ (c .before .before .before .before .before .before .before .before .before .none-gathered .ensures)
+    _ _ (c .before .before .before .before .before .before .first .given .1) _ _ (c .before .before .before .before .gather-one .ensures) (c .before .before .before .gather .ensures) _ (c .judge .ensures)
 
 pub judge-at-spec : {M : Type 1} → statement M
 judge-at-spec =

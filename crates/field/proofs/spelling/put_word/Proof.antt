@@ -1,11 +1,10 @@
-use Rattle.field.proofs.SpellingLaws.{put-whole}
+use Rattle.field.proofs.SpellingLaws.{put-whole, put-none, put-more}
 use borrow.Author.Needs.{needs}
 use Prim.Native.Nat.{_≤_, _-_}
 use native.Mathlib.Omega.{arith}
 use mathlib.Core.Path.{_≡_, sym, _∙_}
 use lib.ListN.{length, take}
 use Rattle.field.specs.Spelling.{putAll}
-use Rattle.field.proofs.SpellingLaws.{put-none, put-more}
 use Rattle.field.proofs.spelling.put_word.Statement.{statement}
 use Rattle.field.proofs.spelling.put_word.Tie as tie
 

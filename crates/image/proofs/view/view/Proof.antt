@@ -3,29 +3,47 @@ use mathlib.Core.List.{List}
 use Prim.Native.Nat.{ℕ, _+_, _-_, _≤_}
 use native.Mathlib.Omega.{arith}
 use lib.ListN.{length, take, drop}
+use denote.Ref.{RefT, now}
 use Rattle.record.specs.declared.Chip.{Chip}
 use Rattle.record.specs.declared.Chip.the-variants.{Flash, Eeprom}
 use Rattle.image.specs.Images.{perChip, keptBytes}
-use Rattle.image.specs.View.{viewPlace, viewLength, pageShown}
+use Rattle.image.specs.View.{viewPlace, viewLength, Shows}
 use Rattle.image.proofs.Shown.{kept-most, view-within, asked-within, view-is}
 use borrow.Author.Needs.{needs}
 use Rattle.image.proofs.view.view.Statement.{statement}
 use Rattle.image.proofs.view.view.Tie as tie
 
--- the lengths of lent parts are the parts' lengths
-long-is : (flash eeprom : List ℕ) → perChip (length flash) (length eeprom) ≡ (λ c. length (perChip flash eeprom c))
-long-is flash eeprom = λ i c. each c i where
-  each : (c : Chip) → perChip (length flash) (length eeprom) c ≡ length (perChip flash eeprom c)
-  each Flash = refl
-  each Eeprom = refl
+module _ (flash eeprom : RefT (List ℕ)) where
+  -- the images' lengths, by image
+  long-is : perChip (length (now flash)) (length (now eeprom)) ≡ (λ c. length (now (perChip flash eeprom c)))
+  long-is = λ i c. each c i where
+    each : (c : Chip) → perChip (length (now flash)) (length (now eeprom)) c ≡ length (now (perChip flash eeprom c))
+    each Flash = refl
+    each Eeprom = refl
 
-module _ (flash eeprom : List ℕ) (chip : Chip) (number : ℕ) where
-  within : viewPlace (perChip (length flash) (length eeprom)) chip number + viewLength (perChip (length flash) (length eeprom)) chip number ≤ length (perChip flash eeprom chip)
-  within = rw (long-is flash eeprom) (asked-within (perChip flash eeprom) chip number)
+  module _ (chip : Chip) (number : ℕ) where
+    abbrev place : ℕ
+    place = viewPlace (perChip (length (now flash)) (length (now eeprom))) chip number
 
-  shown : pageShown (perChip flash eeprom) chip number
-      ≡ take (viewLength (perChip (length flash) (length eeprom)) chip number) (drop (viewPlace (perChip (length flash) (length eeprom)) chip number) (perChip flash eeprom chip))
-  shown = rw (long-is flash eeprom) (view-is (perChip flash eeprom) chip number)
+    abbrev long : ℕ
+    long = viewLength (perChip (length (now flash)) (length (now eeprom))) chip number
+
+    within : place + long ≤ length (now (perChip flash eeprom chip))
+    within = rw long-is (asked-within (λ c. now (perChip flash eeprom c)) chip number)
+
+    -- the part of the image w from p on, n long
+    shows : {w : Chip} → chip ≡ w → {p n : ℕ} → p ≡ place → n ≡ long → {r : RefT (List ℕ)} → r .ptr ≡ (perChip flash eeprom w .ptr .0, p + perChip flash eeprom w .ptr .1)
+        → now r ≡ take (p + n - p) (drop p (now (perChip flash eeprom w))) → Shows (perChip flash eeprom) chip number r
+    shows is {p} {n} at many lies bytes = record {
+      lies = lies ∙ (λ i. (perChip flash eeprom (sym is i) .ptr .0, there i + perChip flash eeprom (sym is i) .ptr .1));
+      bytes = bytes ∙ (λ i. take (much i) (drop (there i) (now (perChip flash eeprom (sym is i))))) ∙ sym (view-is (λ c. now (perChip flash eeprom c)) chip number);
+    }
+      where
+        there : p ≡ viewPlace (λ c. length (now (perChip flash eeprom c))) chip number
+        there = at ∙ ap (λ (l : Chip → ℕ). viewPlace l chip number) long-is
+
+        much : p + n - p ≡ viewLength (λ c. length (now (perChip flash eeprom c))) chip number
+        much = let m : p + n - p ≡ n = omega arith in m ∙ many ∙ ap (λ (l : Chip → ℕ). viewLength l chip number) long-is
 
 view-place-requires : tie.Need-view-place-requires
 view-place-requires c κs = search needs
@@ -48,8 +66,8 @@ part-result-start c = search needs
 part-result-end : tie.Need-part-result-end
 part-result-end c =
     let s = c .before .before .before .before .before .before .args in
-    let e : perChip (s .flash .now) (s .eeprom .now) (s .chip) ≡ s .flash .now = ap (perChip (s .flash .now) (s .eeprom .now)) (c .enum-told .given .1) in
-    omega (arith, within (s .flash .now) (s .eeprom .now) (s .chip) (s .number), ap length e, c .before .before .before .view-place .ensures, c .before .before .view-length .ensures)
+    let e : perChip (s .flash) (s .eeprom) (s .chip) .now ≡ s .flash .now = ap (λ (w : Chip). perChip (s .flash) (s .eeprom) w .now) (c .enum-told .given .1) in
+    omega (arith, within (s .flash) (s .eeprom) (s .chip) (s .number), ap length e, c .before .before .before .view-place .ensures, c .before .before .view-length .ensures)
 
 enum-told-2 : tie.Need-enum-told-2
 enum-told-2 c = search needs
@@ -63,28 +81,18 @@ part-result-start-2 c = search needs
 part-result-end-2 : tie.Need-part-result-end-2
 part-result-end-2 c =
     let s = c .before .before .before .before .before .before .args in
-    let e : perChip (s .flash .now) (s .eeprom .now) (s .chip) ≡ s .eeprom .now = ap (perChip (s .flash .now) (s .eeprom .now)) (c .enum-told2 .given .1) in
-    omega (arith, within (s .flash .now) (s .eeprom .now) (s .chip) (s .number), ap length e, c .before .before .before .view-place .ensures, c .before .before .view-length .ensures)
+    let e : perChip (s .flash) (s .eeprom) (s .chip) .now ≡ s .eeprom .now = ap (λ (w : Chip). perChip (s .flash) (s .eeprom) w .now) (c .enum-told2 .given .1) in
+    omega (arith, within (s .flash) (s .eeprom) (s .chip) (s .number), ap length e, c .before .before .before .view-place .ensures, c .before .before .view-length .ensures)
 
 returns : tie.Need-returns
 returns c =
     let s = c .before .before .before .before .before .before .before .args in
-    let p = c .before .before .before .before .view-place .result in
-    let n = c .before .before .before .view-length .result in
-    let m : p + n - p ≡ n = omega arith in
-    let h = c .before .enum-told .given .1 in
-    let long = perChip (length (s .flash .now)) (length (s .eeprom .now)) in
-    rw (m, c .before .before .before .before .view-place .ensures, c .before .before .before .view-length .ensures) (sym (shown (s .flash .now) (s .eeprom .now) (s .chip) (s .number) ∙ ap (λ (w : Chip). take (viewLength long (s .chip) (s .number)) (drop (viewPlace long (s .chip) (s .number)) (perChip (s .flash .now) (s .eeprom .now) w))) h))
+    shows (s .flash) (s .eeprom) (s .chip) (s .number) (c .before .enum-told .given .1) (c .before .before .before .before .view-place .ensures) (c .before .before .before .view-length .ensures) refl refl
 
 returns-2 : tie.Need-returns-2
 returns-2 c =
     let s = c .before .before .before .before .before .before .before .args in
-    let p = c .before .before .before .before .view-place .result in
-    let n = c .before .before .before .view-length .result in
-    let m : p + n - p ≡ n = omega arith in
-    let h = c .before .enum-told2 .given .1 in
-    let long = perChip (length (s .flash .now)) (length (s .eeprom .now)) in
-    rw (m, c .before .before .before .before .view-place .ensures, c .before .before .before .view-length .ensures) (sym (shown (s .flash .now) (s .eeprom .now) (s .chip) (s .number) ∙ ap (λ (w : Chip). take (viewLength long (s .chip) (s .number)) (drop (viewPlace long (s .chip) (s .number)) (perChip (s .flash .now) (s .eeprom .now) w))) h))
+    shows (s .flash) (s .eeprom) (s .chip) (s .number) (c .before .enum-told2 .given .1) (c .before .before .before .before .view-place .ensures) (c .before .before .before .view-length .ensures) refl refl
 
 pub view-spec : {M : Type 1} → statement M
 view-spec =

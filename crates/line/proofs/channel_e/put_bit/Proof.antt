@@ -1,5 +1,5 @@
 use Rattle.line.proofs.After.{put-as}
-use Rattle.line.specs.ChannelE.{spelledBit}
+use Rattle.line.specs.Readers.{spelledBit}
 use borrow.Author.Needs.{needs}
 use Rattle.line.proofs.channel_e.put_bit.Statement.{statement}
 use Rattle.line.proofs.channel_e.put_bit.Tie as tie

@@ -1,6 +1,6 @@
 use Rattle.field.proofs.Answers.{tells-word}
 use Rattle.line.proofs.EepromLaws.{bit-value, bit-bad}
-use Rattle.line.specs.ChannelE.{spelledBit}
+use Rattle.line.specs.Readers.{spelledBit}
 use mathlib.Core.Bool.{true, false}
 use Rattle.field.proofs.Reading.{got-none, got-one}
 use borrow.Author.Needs.{needs}

@@ -1,5 +1,4 @@
 use borrow.Author.Tests.{eq-eqb, ne-eqb}
-use borrow.Author.Tests.{eq-eqb, ne-eqb}
 use Rattle.listing.proofs.bytes.reply_of.Statement.{statement}
 use Rattle.listing.proofs.bytes.reply_of.Tie as tie
 

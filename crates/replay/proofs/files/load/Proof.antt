@@ -16,7 +16,7 @@ fail-requires : tie.Need-fail-requires
 fail-requires c κs = search needs
 
 returns-2 : tie.Need-returns-2
-returns-2 c = loads-not _ _
+returns-2 c = loads-not _
 
 read-all-requires : tie.Need-read-all-requires
 read-all-requires c κs = search needs
@@ -37,7 +37,7 @@ same-length : tie.Need-same-length
 same-length c = search needs
 
 returns-3 : tie.Need-returns-3
-returns-3 c = loads-not _ _
+returns-3 c = loads-not _
 
 close-requires-2 : tie.Need-close-requires-2
 close-requires-2 c κs = search needs
@@ -46,7 +46,7 @@ same-length-2 : tie.Need-same-length-2
 same-length-2 c = search needs
 
 returns-4 : tie.Need-returns-4
-returns-4 c = loads _ _ _ (c .before .before .before .before .before .before .read-all .ensures .within _ (c .before .before .n .given .1))
+returns-4 c = loads _ _ (c .before .before .before .before .before .before .read-all .ensures .within _ (c .before .before .n .given .1))
 
 pub load-spec : {M : Type 1} → statement M
 load-spec =

@@ -35,8 +35,8 @@ loop-holds c = let g = got-one tells-board (c .before .before .before .before .r
     let p = got-board-place g in
     (omega arith, omega arith, so-start g (c .all-closed .ensures))
 
-read-record-requires : tie.Need-read-record-requires Inv-loop μ-loop
-read-record-requires c κs = search needs
+record-at-requires : tie.Need-record-at-requires Inv-loop μ-loop
+record-at-requires c κs = search needs
 
 enum-known-rec : tie.Need-enum-known-rec Inv-loop μ-loop
 enum-known-rec c = search needs
@@ -45,10 +45,10 @@ enum-told-2 : tie.Need-enum-told-2 Inv-loop μ-loop
 enum-told-2 c = search needs
 
 returns-2 : tie.Need-returns-2 Inv-loop μ-loop
-returns-2 c = so-bad (c .before .before .before .before .loop .inv .2) (c .before .before .before .loop-test .taken) (got-none tells-record (c .before .before .read-record .ensures) (c .enum-told2 .given .1))
+returns-2 c = so-bad (c .before .before .before .before .loop .inv .2) (c .before .before .before .loop-test .taken) (got-none tells-record (c .before .before .record-at .ensures) (c .enum-told2 .given .1))
 
 returns-3 : tie.Need-returns-3 Inv-loop μ-loop
-returns-3 c = so-back (c .before .before .before .before .before .before .before .loop .inv .2) (got-one tells-record (c .before .before .before .before .before .read-record .ensures) _ _ (c .before .before .before .rec .given .1)) (c .if1 .taken)
+returns-3 c = so-back (c .before .before .before .before .before .before .before .loop .inv .2) (got-one tells-record (c .before .before .before .before .before .record-at .ensures) _ _ (c .before .before .before .rec .given .1)) (c .if1 .taken)
 
 buses-after-requires : tie.Need-buses-after-requires Inv-loop μ-loop
 buses-after-requires c κs = search needs
@@ -60,20 +60,20 @@ enum-told-3 : tie.Need-enum-told-3 Inv-loop μ-loop
 enum-told-3 c = search needs
 
 returns-4 : tie.Need-returns-4 Inv-loop μ-loop
-returns-4 c = so-impossible (c .before .before .before .before .before .before .before .before .before .before .loop .inv .2) (got-one tells-record (c .before .before .before .before .before .before .before .before .read-record .ensures) _ _ (c .before .before .before .before .before .before .rec .given .1)) (c .before .before .before .if1 .left) (via (c .before .before .buses-after .ensures) (c .enum-told3 .given .1))
+returns-4 c = so-impossible (c .before .before .before .before .before .before .before .before .before .before .loop .inv .2) (got-one tells-record (c .before .before .before .before .before .before .before .before .record-at .ensures) _ _ (c .before .before .before .before .before .before .rec .given .1)) (c .before .before .before .if1 .left) (via (c .before .before .buses-after .ensures) (c .enum-told3 .given .1))
 
 add-number : tie.Need-add-number Inv-loop μ-loop
-add-number c = let g = got-one tells-record (c .before .before .before .before .before .before .before .before .before .read-record .ensures) _ _ (c .before .before .before .before .before .before .before .rec .given .1) in
+add-number c = let g = got-one tells-record (c .before .before .before .before .before .before .before .before .before .record-at .ensures) _ _ (c .before .before .before .before .before .before .before .rec .given .1) in
     let l = got-record-place g in
     omega (arith, c .before .before .before .before .before .before .known-told2 .given, c .before .before .before .before .before .before .before .before .before .before .before .loop .inv .1)
 
 loop-less : tie.Need-loop-less Inv-loop μ-loop
-loop-less c = let g = got-one tells-record (c .before .before .before .before .before .before .before .before .before .read-record .ensures) _ _ (c .before .before .before .before .before .before .before .rec .given .1) in
+loop-less c = let g = got-one tells-record (c .before .before .before .before .before .before .before .before .before .record-at .ensures) _ _ (c .before .before .before .before .before .before .before .rec .given .1) in
     let l = got-record-place g in
     omega arith
 
 loop-again : tie.Need-loop-again Inv-loop μ-loop
-loop-again c = let g = got-one tells-record (c .before .before .before .before .before .before .before .before .before .read-record .ensures) _ _ (c .before .before .before .before .before .before .before .rec .given .1) in
+loop-again c = let g = got-one tells-record (c .before .before .before .before .before .before .before .before .before .record-at .ensures) _ _ (c .before .before .before .before .before .before .before .rec .given .1) in
     let l = got-record-place g in
     (l .1, omega arith, so-more (c .before .before .before .before .before .before .before .before .before .before .before .loop .inv .2) g (c .before .before .before .before .if1 .left) (via (c .before .before .before .buses-after .ensures) (c .before .after .given .1)))
 
@@ -92,7 +92,7 @@ check-text-spec =
     returns
     all-closed-requires
     loop-holds
-    read-record-requires
+    record-at-requires
     enum-known-rec
     enum-told-2
     returns-2

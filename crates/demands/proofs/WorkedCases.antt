@@ -1,0 +1,92 @@
+-- Why the worked cases hold: the controls by computing, a byte that is compared by its last bit, the limit by the ground of refusal 2.
+use mathlib.Core.Path.{_≡_, refl, ap, _∙_}
+use mathlib.Core.List.{List, [], _∷_}
+use Prim.Native.Nat.{ℕ, _%_}
+use native.Mathlib.Omega.{arith}
+use lib.Bits.{bitAnd, and-mask}
+use lib.Dec.{eqb}
+use Rattle.meaning.specs.Meaning.{after}
+use Rattle.meaning.specs.Listing.{said}
+use Rattle.record.specs.declared.Reply.the-variants.{Silent}
+use Rattle.record.specs.Replies.{matchNumber}
+use Rattle.cell.specs.declared.Cell.{Cell}
+use Rattle.image.specs.Images.{Images}
+use Rattle.controls.specs.Play.{movedOf}
+use Rattle.machine.specs.Effects.{flashAfter, eepromAfter}
+use Rattle.machine.specs.Replies.{delivered, agreesIf, compared}
+use Rattle.machine.specs.Machine.{playOn, saysOn}
+use Rattle.call.specs.Replay.{replyLines}
+use Rattle.demands.specs.Bench.{byteOf, AllHold}
+use Rattle.demands.specs.Worked.{reading, NoneLocked, OneLocked, TwoLocked, AllLocked, ChipErases, ChipClears, Wired, GoesOn, sixth, Matched, NoSureBit, OneSureBit, Limit, WorkedCases}
+use Rattle.demands.proofs.FirstBadLine.{too-long}
+
+-- the reply bytes of a READ, by the byte that is kept
+abbrev readAs : ℕ → Cell → List ℕ
+readAs so c = replyLines (reading so) (Silent ∷ Silent ∷ Silent ∷ Silent ∷ Silent ∷ byteOf c ∷ [])
+
+-- bit 0 of a byte is its remainder by 2
+by-last : (v so n : ℕ) → matchNumber (agreesIf (eqb (so % 2) (v % 2))) ≡ n → matchNumber (agreesIf (eqb (bitAnd so 1) (bitAnd v 1))) ≡ n
+by-last v so n h =
+    let a : bitAnd so 1 ≡ so % 2 = and-mask so 1 in
+    let b : bitAnd v 1 ≡ v % 2 = and-mask v 1 in
+    rw (a, b) h
+
+module _ (x : Images) where
+  none-locked : NoneLocked x
+  unfolding said playOn saysOn movedOf delivered flashAfter eepromAfter
+  none-locked = ((refl, refl), (refl, refl), (refl, refl), (refl, refl))
+
+  one-locked : OneLocked x
+  unfolding said playOn saysOn movedOf delivered flashAfter eepromAfter
+  one-locked = ((refl, refl), (refl, refl), (refl, refl), (refl, refl))
+
+  two-locked : TwoLocked x
+  unfolding said playOn saysOn movedOf delivered flashAfter eepromAfter
+  two-locked = ((refl, refl), (refl, refl), (refl, refl), (refl, refl))
+
+  all-locked : AllLocked x
+  unfolding said playOn saysOn movedOf delivered flashAfter eepromAfter
+  all-locked = ((refl, refl), (refl, refl), (refl, refl), (refl, refl))
+
+  chip-erases : ChipErases x
+  unfolding said playOn saysOn movedOf delivered flashAfter eepromAfter
+  chip-erases = (refl, refl, refl, refl)
+
+  chip-clears : ChipClears x
+  unfolding after playOn movedOf flashAfter eepromAfter
+  chip-clears = (refl, refl, refl, refl, refl)
+
+  wired : Wired x
+  unfolding said playOn saysOn movedOf delivered flashAfter eepromAfter
+  wired = ((refl, refl, refl, refl, refl, refl, refl, refl), (refl, refl, refl, refl, refl, refl, refl, refl), refl)
+
+  goes-on : GoesOn x
+  unfolding said playOn saysOn movedOf delivered flashAfter eepromAfter
+  goes-on = refl
+
+  no-sure-bit : NoSureBit x
+  unfolding said playOn saysOn movedOf delivered flashAfter eepromAfter replyLines compared
+  no-sure-bit so h = ap (readAs so) h
+
+  sure-as : (v so n : ℕ) → matchNumber (agreesIf (eqb (so % 2) (v % 2))) ≡ n → Matched v 0xfe so n x
+  unfolding said playOn saysOn movedOf delivered flashAfter eepromAfter replyLines compared
+  sure-as v so n k h = ap (readAs so) h ∙ ap (sixth v 0xfe) (by-last v so n k)
+
+  one-sure-bit : OneSureBit x
+  one-sure-bit = (
+    λ so e. sure-as 0x00 so 1 (ap (λ (b : ℕ). matchNumber (agreesIf (eqb b 0))) e),
+    λ so e. sure-as 0x00 so 2 (ap (λ (b : ℕ). matchNumber (agreesIf (eqb b 0))) e),
+    λ so e. sure-as 0x01 so 1 (ap (λ (b : ℕ). matchNumber (agreesIf (eqb b 1))) e),
+    λ so e. sure-as 0x01 so 2 (ap (λ (b : ℕ). matchNumber (agreesIf (eqb b 1))) e),
+  )
+
+  limit : Limit x
+  limit text replies result e f p = (
+    λ l a. let w = too-long p .0 a .1 in omega arith,
+    λ l. too-long p .1 (f, omega arith),
+  )
+
+-- all of them
+pub worked-cases : WorkedCases
+unfolding AllHold
+worked-cases x = (none-locked x, (one-locked x, (two-locked x, (all-locked x, (chip-erases x, (chip-clears x, (wired x, (goes-on x, (no-sure-bit x, (one-sure-bit x, (limit x, tt)))))))))))

@@ -1,0 +1,173 @@
+-- Believed: Worked cases of rules that the bench sheet does not touch, each outcome taken from document 01 by hand; in the words of the sheet (Bench).
+use mathlib.Core.Path.{_≡_}
+use mathlib.Core.Bool.{true}
+use mathlib.Core.Logic.{_≢_}
+use mathlib.Core.List.{List, [], _∷_, _++_, map}
+use Prim.Native.Nat.{ℕ, _+_, _%_}
+use lib.ListN.{length, replicate}
+use Rattle.record.specs.declared.Board.{Board}
+use Rattle.record.specs.declared.Record.{Record}
+use Rattle.record.specs.declared.FlashEvent.the-variants as flash
+use Rattle.record.specs.declared.Reply.{Reply}
+use Rattle.record.specs.declared.Reply.the-variants.{Silent, Ack, Starts}
+use Rattle.meaning.specs.Meaning.{after}
+use Rattle.image.specs.Image.{Image, cellAt}
+use Rattle.image.specs.Cycles.{eraseAll}
+use Rattle.machine.specs.Machine.{machineAtStart, onMachine}
+use Rattle.image.specs.Images.{Images}
+use Rattle.buffers.specs.Buffers.{Buffers, fit}
+use Rattle.call.specs.Replay.{Ended, replyLines, Replays}
+use Rattle.record.specs.Records.{onF}
+use Rattle.demands.specs.Bench.{boardOf, plain, opened, framed, wren, three, two, addressed, cell, saidOn, byteOf, AllHold}
+
+-- ---- 'Flash rules': 'Locked out by BP1 BP0: 00 none, 01 sector 4, 10 sectors 3 and 4, 11 all'; BP1 is bit 3 of the status, BP0 bit 2
+-- a sector erase of an address, and a PROGRAM of one byte there
+abbrev pub erase : ℕ → List ℕ
+erase address = 0x52 ∷ three address
+
+abbrev pub program : ℕ → List ℕ
+program address = 0x02 ∷ (three address ++ (0xa5 ∷ []))
+
+-- after WREN, on a board of this status, the frame's `des` starts a cycle, or nothing
+abbrev pub Begins : ℕ → List ℕ → Images → Type 0
+Begins status bs x = saidOn (boardOf status) (wren 0 ++ framed 0 bs) x ≡ replicate (4 + length bs) Silent ++ (Starts ∷ [])
+
+abbrev pub Barred : ℕ → List ℕ → Images → Type 0
+Barred status bs x = saidOn (boardOf status) (wren 0 ++ framed 0 bs) x ≡ replicate (5 + length bs) Silent
+
+-- an erase of each sector by its first place, and a PROGRAM at its last
+abbrev pub SectorBegins : ℕ → ℕ → ℕ → Images → Type 0
+SectorBegins status first last x = Begins status (erase first) x × Begins status (program last) x
+
+abbrev pub SectorBarred : ℕ → ℕ → ℕ → Images → Type 0
+SectorBarred status first last x = Barred status (erase first) x × Barred status (program last) x
+
+-- status 00: none
+abbrev pub NoneLocked : Images → Type 0
+NoneLocked x =
+    SectorBegins 0x00 0x00000 0x07fff x × SectorBegins 0x00 0x08000 0x0ffff x × SectorBegins 0x00 0x10000 0x17fff x × SectorBegins 0x00 0x18000 0x1ffff x
+
+-- status 04: sector 4
+abbrev pub OneLocked : Images → Type 0
+OneLocked x =
+    SectorBegins 0x04 0x00000 0x07fff x × SectorBegins 0x04 0x08000 0x0ffff x × SectorBegins 0x04 0x10000 0x17fff x × SectorBarred 0x04 0x18000 0x1ffff x
+
+-- status 08: sectors 3 and 4
+abbrev pub TwoLocked : Images → Type 0
+TwoLocked x =
+    SectorBegins 0x08 0x00000 0x07fff x × SectorBegins 0x08 0x08000 0x0ffff x × SectorBarred 0x08 0x10000 0x17fff x × SectorBarred 0x08 0x18000 0x1ffff x
+
+-- status 0c: all
+abbrev pub AllLocked : Images → Type 0
+AllLocked x =
+    SectorBarred 0x0c 0x00000 0x07fff x × SectorBarred 0x0c 0x08000 0x0ffff x × SectorBarred 0x0c 0x10000 0x17fff x × SectorBarred 0x0c 0x18000 0x1ffff x
+
+-- 'chip erase with all locked' starts nothing; with one sector free it starts a cycle
+abbrev pub ChipErases : Images → Type 0
+ChipErases x = Begins 0x00 (0x62 ∷ []) x × Begins 0x04 (0x62 ∷ []) x × Begins 0x08 (0x62 ∷ []) x × Barred 0x0c (0x62 ∷ []) x
+
+-- 'Chip erase clears the unlocked sectors': the flash image after one that ends, by the status and the watched sector
+abbrev pub chipErased : ℕ → ℕ → Images → Image
+chipErased status sector x =
+    let board : Board = record { status = status; sector = sector; address = 0 } in
+    after (onMachine board) (wren 0 ++ (framed 0 (0x62 ∷ []) ++ (onF 0 flash.End ∷ []))) (machineAtStart board x) .images .flash
+
+abbrev pub ChipClears : Images → Type 0
+ChipClears x =
+    (chipErased 0x04 3 x ≡ eraseAll (x .flash))
+    × (chipErased 0x04 4 x ≡ x .flash)
+    × (chipErased 0x08 2 x ≡ eraseAll (x .flash))
+    × (chipErased 0x08 3 x ≡ x .flash)
+    × (chipErased 0x08 4 x ≡ x .flash)
+
+-- ---- 'EEPROM rules': 'After `sta`, byte 1010 A2 A1 A0 R/W'; 'Another address is silent'
+abbrev pub wiredAs : ℕ → Board
+wiredAs address = record { status = 0x00; sector = 1; address = address }
+
+-- what a chip wired so says to an address byte after `sta`
+abbrev pub hears : ℕ → Images → ℕ → List Reply
+hears wired x b = saidOn (wiredAs wired) (addressed (b ∷ [])) x
+
+abbrev pub yes : List Reply
+yes = Silent ∷ Ack ∷ []
+
+abbrev pub no : List Reply
+no = Silent ∷ Silent ∷ []
+
+-- the eight address bytes for writing, for reading, and those that are not 1010 by one bit, with A2 A1 A0 R/W 0000
+abbrev pub forWriting : List ℕ
+forWriting = 0xa0 ∷ 0xa2 ∷ 0xa4 ∷ 0xa6 ∷ 0xa8 ∷ 0xaa ∷ 0xac ∷ 0xae ∷ []
+
+abbrev pub forReading : List ℕ
+forReading = 0xa1 ∷ 0xa3 ∷ 0xa5 ∷ 0xa7 ∷ 0xa9 ∷ 0xab ∷ 0xad ∷ 0xaf ∷ []
+
+abbrev pub forOthers : List ℕ
+forOthers = 0x20 ∷ 0xe0 ∷ 0x80 ∷ 0xb0 ∷ []
+
+-- each wired address answers its own byte of the eight, and no other's
+abbrev pub Answers : List ℕ → Images → Type 0
+Answers bytes x =
+    (map (hears 0 x) bytes ≡ yes ∷ no ∷ no ∷ no ∷ no ∷ no ∷ no ∷ no ∷ [])
+    × (map (hears 1 x) bytes ≡ no ∷ yes ∷ no ∷ no ∷ no ∷ no ∷ no ∷ no ∷ [])
+    × (map (hears 2 x) bytes ≡ no ∷ no ∷ yes ∷ no ∷ no ∷ no ∷ no ∷ no ∷ [])
+    × (map (hears 3 x) bytes ≡ no ∷ no ∷ no ∷ yes ∷ no ∷ no ∷ no ∷ no ∷ [])
+    × (map (hears 4 x) bytes ≡ no ∷ no ∷ no ∷ no ∷ yes ∷ no ∷ no ∷ no ∷ [])
+    × (map (hears 5 x) bytes ≡ no ∷ no ∷ no ∷ no ∷ no ∷ yes ∷ no ∷ no ∷ [])
+    × (map (hears 6 x) bytes ≡ no ∷ no ∷ no ∷ no ∷ no ∷ no ∷ yes ∷ no ∷ [])
+    × (map (hears 7 x) bytes ≡ no ∷ no ∷ no ∷ no ∷ no ∷ no ∷ no ∷ yes ∷ [])
+
+abbrev pub Wired : Images → Type 0
+Wired x = Answers forWriting x × Answers forReading x × (map (hears 0 x) forOthers ≡ replicate 4 no)
+
+-- ---- 'Read: the byte at the counter, which then goes on': at 3fff goes on at 4000
+abbrev pub GoesOn : Images → Type 0
+GoesOn x =
+    saidOn plain (addressed (0xa0 ∷ two 0x3fff) ++ addressed (0xa1 ∷ 0x00 ∷ 0x00 ∷ [])) x
+    ≡ Silent ∷ Ack ∷ Ack ∷ Ack ∷ Silent ∷ Ack ∷ byteOf (cellAt (x .eeprom) 0x3fff) ∷ byteOf (cellAt (x .eeprom) 0x4000) ∷ []
+
+-- ---- 'Replies and stopping': 'Kinds 2 (unless the mask is ff), 3 and 4 are compared'; 'Bytes and doubt': 'A read is compared on its sure bits only'
+-- READ of 00000, with the byte that was recorded
+abbrev pub reading : ℕ → List Record
+reading so = opened 0 (0x03 ∷ three 0x00000) ++ (onF 0 (flash.Byte 0x00 so) ∷ [])
+
+-- the reply bytes of its six records, kind, value, mask and match of each: five are silent, the sixth is as told
+abbrev pub quiet : List ℕ
+quiet = 1 ∷ 0 ∷ 0 ∷ 0 ∷ []
+
+abbrev pub sixth : ℕ → ℕ → ℕ → List ℕ
+sixth v m n = quiet ++ quiet ++ quiet ++ quiet ++ quiet ++ (2 ∷ v ∷ m ∷ n ∷ [])
+
+-- where v/m is kept at 00000 and so was recorded, the match is n
+abbrev pub Matched : ℕ → ℕ → ℕ → ℕ → Images → Type 0
+Matched v m so n x = cellAt (x .flash) 0x00000 ≡ cell v m → replyLines (reading so) (saidOn plain (reading so) x) ≡ sixth v m n
+
+-- mask ff: nothing to compare, whatever was recorded
+abbrev pub NoSureBit : Images → Type 0
+NoSureBit x = (so : ℕ) → Matched 0x00 0xff so 0 x
+
+-- mask fe: bit 0 alone decides
+abbrev pub OneSureBit : Images → Type 0
+OneSureBit x =
+    ((so : ℕ) → so % 2 ≡ 0 → Matched 0x00 0xfe so 1 x)
+    × ((so : ℕ) → so % 2 ≡ 1 → Matched 0x00 0xfe so 2 x)
+    × ((so : ℕ) → so % 2 ≡ 1 → Matched 0x01 0xfe so 1 x)
+    × ((so : ℕ) → so % 2 ≡ 0 → Matched 0x01 0xfe so 2 x)
+
+-- ---- 'The trace': 'Text of at most 65,536 bytes'; refusal 2: 'text over 65,536'
+-- buffers with these images
+abbrev pub lentWith : Images → List ℕ → List ℕ → Buffers
+lentWith x replies result = record { images = x; replies = replies; result = result }
+
+-- any outcome that the promise of the call admits, where the buffers fit
+abbrev pub Limit : Images → Type 0
+Limit x =
+    (text replies result : List ℕ) (e : Ended) → fit (lentWith x replies result) ≡ true → Replays text (lentWith x replies result) e
+    → (length text ≡ 65536 → e .answer ≢ 2) × (length text ≡ 65537 → e .answer ≡ 2)
+
+-- ---- the list
+abbrev pub worked : List (Images → Type 0)
+worked = NoneLocked ∷ OneLocked ∷ TwoLocked ∷ AllLocked ∷ ChipErases ∷ ChipClears ∷ Wired ∷ GoesOn ∷ NoSureBit ∷ OneSureBit ∷ Limit ∷ []
+
+-- they hold of all images
+abbrev pub WorkedCases : Type 0
+WorkedCases = (x : Images) → AllHold worked x

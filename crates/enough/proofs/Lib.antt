@@ -1,0 +1,5 @@
+pub mod Sides
+pub mod Effects
+pub mod OneChip
+pub mod Whole
+pub mod Enough

@@ -1,0 +1,96 @@
+-- An EEPROM write that the chip has taken (eeprom/proofs/Written), at `end` and at `off`: only the bytes sent change, and a later byte for a place replaces the
+-- earlier. Assumes nothing.
+use Prim.Native.Nat.{ℕ, suc, _+_, _-_, _*_, _/_, _%_, _<_}
+use native.Mathlib.Nat.{mod-lt}
+use native.Mathlib.Omega.{arith}
+use mathlib.Core.Bool.{true, false}
+use mathlib.Core.Logic.{_≢_}
+use mathlib.Core.Path.{_≡_, sym, ap, _∙_}
+use mathlib.Core.List.{List, _∷_, _++_}
+use lib.Dec.{eqb}
+use lib.ListN.{length, getD, length-append}
+use borrow.Author.Tests.{eqb-true, eqb-false}
+use Rattle.law.specs.Choice.{split}
+use Rattle.law.specs.Words.{pick}
+use Rattle.page.specs.Geometry.{eepromPage, eepromSize}
+use Rattle.page.specs.Rolling.{sentPlace}
+use Rattle.page.specs.Roll.{place, roll, placeAfter}
+use Rattle.page.specs.Laws.{sent-place, none-sent}
+use Rattle.cell.specs.Rules.{storedCell, doubtfulCell}
+use Rattle.image.specs.Image.{Image, spans, cellAt}
+use Rattle.image.specs.Cycles.{storePage, cutStorePage}
+use Rattle.image.proofs.Reading.{page-off}
+use Rattle.image.proofs.AtPlace.{storePage-at, cutStorePage-at, storePage-unsent, cutStorePage-unsent}
+use Rattle.eeprom.specs.Chip as eeprom-chip
+use Rattle.eeprom.proofs.Written as eeprom
+use Rattle.eeprom.proofs.Written.{writeOf, writing, sent-as}
+use Rattle.machine.specs.declared.effects.Stroke.the-variants.{Whole, Cut}
+use Rattle.machine.specs.Effects.{eepromAfter}
+
+module _ (a : ℕ) (ds : List ℕ) (i : Image) (k : ℕ) (none : (j : ℕ) → j < length ds → placeAfter eepromPage a j ≢ k) where
+  -- in the page, a place that is not sent
+  not-stored : k / eepromPage ≡ a / eepromPage → sentPlace eepromPage (writeOf a (length ds) .first) (writeOf a (length ds) .count) (k % eepromPage) ≡ false
+  not-stored p =
+      sent-as a (length ds) (k % eepromPage)
+      ∙ none-sent eepromPage (a % eepromPage) (omega arith) (length ds) (k % eepromPage) (omega arith)
+      (λ j l h. none j l (ap (λ (q : ℕ). a / eepromPage * eepromPage + q) h ∙ here)) where
+        here : a / eepromPage * eepromPage + k % eepromPage ≡ k
+        here = omega arith
+
+  -- only the bytes sent change: at `end`, and at `off` ('others unchanged')
+  pub only-stored : cellAt (eepromAfter Whole (writing a ds) i) k ≡ cellAt i k
+  unfolding eepromAfter storePage
+  only-stored =
+      let s = writeOf a (length ds) in
+      let bytes = roll eepromPage (a % eepromPage) ds eeprom-chip.blank in
+      split (eqb (k / eepromPage) (a / eepromPage))
+      (λ p. storePage-unsent (s .page) (s .first) (s .count) bytes i k (not-stored (eqb-true _ _ p)))
+      (λ p. page-off eepromPage (s .page) (λ q c. pick (sentPlace eepromPage (s .first) (s .count) q) (storedCell (getD bytes q 0)) c) i k (eqb-false _ _ p))
+
+  pub only-stored-cut : cellAt (eepromAfter Cut (writing a ds) i) k ≡ cellAt i k
+  unfolding eepromAfter cutStorePage
+  only-stored-cut =
+      let s = writeOf a (length ds) in
+      split (eqb (k / eepromPage) (a / eepromPage))
+      (λ p. cutStorePage-unsent (s .page) (s .first) (s .count) (roll eepromPage (a % eepromPage) ds eeprom-chip.blank) i k (not-stored (eqb-true _ _ p)))
+      (λ p. page-off eepromPage (s .page) (λ q c. pick (sentPlace eepromPage (s .first) (s .count) q) doubtfulCell c) i k (eqb-false _ _ p))
+
+-- 'a later byte for a place replaces the earlier'
+module _ (a : ℕ) (inside : a < eepromSize) (before : List ℕ) (d : ℕ) (later : List ℕ)
+    (none : (j : ℕ) → j < length later → placeAfter eepromPage a (length before + suc j) ≢ placeAfter eepromPage a (length before))
+    (i : Image) (fit : spans eepromSize i ≡ true) where
+  abbrev at : ℕ
+  at = place eepromPage (a % eepromPage) (length before)
+
+  small : at < eepromPage
+  small = mod-lt (a % eepromPage + length before) (omega arith)
+
+  its-place : eepromPage * (a / eepromPage) + at ≡ placeAfter eepromPage a (length before)
+  its-place = omega arith
+
+  its-byte : getD (writing a (before ++ (d ∷ later)) .page) at 0 ≡ d
+  its-byte = eeprom.later-stays a before d later (λ j l e. none j l (ap (λ (q : ℕ). a / eepromPage * eepromPage + q) e))
+
+  its-sent : sentPlace eepromPage (writeOf a (length (before ++ (d ∷ later))) .first) (writeOf a (length (before ++ (d ∷ later))) .count) at ≡ true
+  its-sent =
+      let n : length (before ++ (d ∷ later)) ≡ length before + suc (length later) = length-append before (d ∷ later) in
+      sent-as a (length (before ++ (d ∷ later))) at
+      ∙ sent-place eepromPage (a % eepromPage) (omega arith) (length (before ++ (d ∷ later))) (length before) (omega arith)
+
+  pub later-stored : cellAt (eepromAfter Whole (writing a (before ++ (d ∷ later))) i) (placeAfter eepromPage a (length before)) ≡ storedCell d
+  unfolding eepromAfter
+  later-stored =
+      let s = writeOf a (length (before ++ (d ∷ later))) in
+      let bytes = roll eepromPage (a % eepromPage) (before ++ (d ∷ later)) eeprom-chip.blank in
+      ap (cellAt (storePage (s .page) (s .first) (s .count) bytes i)) (sym its-place)
+      ∙ storePage-at i eepromSize fit (s .page) (s .first) (s .count) bytes (omega arith) at small its-sent
+      ∙ ap storedCell its-byte
+
+  -- cut, the places sent are in doubt
+  pub sent-doubtful : cellAt (eepromAfter Cut (writing a (before ++ (d ∷ later))) i) (placeAfter eepromPage a (length before)) ≡ doubtfulCell
+  unfolding eepromAfter
+  sent-doubtful =
+      let s = writeOf a (length (before ++ (d ∷ later))) in
+      let bytes = roll eepromPage (a % eepromPage) (before ++ (d ∷ later)) eeprom-chip.blank in
+      ap (cellAt (cutStorePage (s .page) (s .first) (s .count) i)) (sym its-place)
+      ∙ cutStorePage-at i eepromSize fit (s .page) (s .first) (s .count) bytes (omega arith) at small its-sent

@@ -1,0 +1,182 @@
+-- The listing of what the call leaves, of a readable text and of a refusal: the records that are listed are exactly those played, and the bytes are those printed.
+use Prim.Native.Nat.{ℕ, _*_, _-_, _≤_}
+use native.Mathlib.Omega.{arith}
+use mathlib.Core.Path.{_≡_, refl, sym, ap, ap₂, _∙_}
+use mathlib.Core.Bool.{Bool, true}
+use mathlib.Core.List.{List, [], _∷_, _++_, append-nil}
+use lib.ListN.{length, length-append, length-replicate}
+use Rattle.law.specs.Words.{pick}
+use Rattle.meaning.specs.Meaning as meaning
+use Rattle.meaning.specs.Meaning.{crowded, differ, lost, Means}
+use Rattle.meaning.specs.Listing.{said, shownAt}
+use Rattle.record.specs.declared.Board.{Board}
+use Rattle.record.specs.declared.Record.{Record}
+use Rattle.record.specs.declared.Reply.{Reply}
+use Rattle.record.specs.declared.Answer.{Answer}
+use Rattle.record.specs.declared.Answer.the-variants.{Settled, BadBuffers, TooLong, BadLine, BackInTime, Impossible, Crowded, OrdersDiffer, StatusLost}
+use Rattle.record.specs.Answers.{answerNumber}
+use Rattle.record.specs.Lengths.{repliesLength, resultLength}
+use Rattle.field.specs.Decimal.{largest}
+use Rattle.machine.specs.Machine.{Machine, machineAtStart, onMachine}
+use Rattle.text.specs.Texts.{textLimit, Readable}
+use Rattle.text.proofs.Theorems.{few-records}
+use Rattle.buffers.specs.Buffers.{Buffers, fit, resultBytes}
+use Rattle.buffers.proofs.Result.{result-written}
+use Rattle.call.specs.Replay.{Ended, refusedAs, countTwos, replyLines, padded, Replays}
+use Rattle.demands.proofs.Readable.{readable-back}
+use Rattle.demands.proofs.Stops.{means-shown, stops-earliest}
+use Rattle.demands.specs.Grounds.{OfLine, three, four, five}
+use Rattle.demands.specs.Lines.{numberOf, stampOf, recordsOf, leftBy}
+use Rattle.demands.proofs.Count.{count-most}
+use Rattle.demands.proofs.Shown.{outcomeOf, means-lines, left-shown}
+use Rattle.listing.specs.Bytes.{answerIn, placeIn, countIn, isRefusal}
+use Rattle.listing.specs.Lines.{heading, lastLine, refusedLine}
+use Rattle.listing.specs.Writing.{played}
+use Rattle.listing.specs.Listing.{Listed, recordLines, listingOf}
+use Rattle.listing.proofs.Which.{one-listed}
+use Rattle.listing.proofs.Theorems.{readable-listed}
+use Rattle.printing.specs.Printed.{linesFrom, printedOf}
+use Rattle.printing.proofs.Front.{early-front}
+use Rattle.printing.proofs.Replies.{played-left, lines-left}
+use Rattle.printing.proofs.Numbers.{answer-back, place-back, count-back}
+
+-- ---- a listing by its numbers
+-- a refusal alone, or the heading, these lines and the last line
+unfoldable told : ℕ → ℕ → ℕ → List ℕ → List ℕ
+told n t c lines = pick (isRefusal n) (refusedLine n t) (heading ++ (lines ++ lastLine n t c))
+
+listing-told : (records : List Record) (replies result : List ℕ) → listingOf records replies result ≡ told (answerIn result) (placeIn result) (countIn result) (recordLines replies 0 records)
+unfolding listingOf told
+listing-told records replies result = refl
+
+result-told : (n t c : ℕ) (lines result : List ℕ) → n ≤ largest → t ≤ largest → c ≤ largest → result ≡ resultBytes n t c → told (answerIn result) (placeIn result) (countIn result) lines ≡ told n t c lines
+result-told n t c lines result hn ht hc e =
+    ap (λ (r : List ℕ). told (answerIn r) (placeIn r) (countIn r) lines) e
+    ∙ (λ i. told (answer-back n t c hn i) (place-back n t c ht i) (count-back n t c hc i) lines)
+
+-- what is printed of an answer of demand 3, by its numbers
+module _ (b : Board) (rs : List Record) where
+  printed-told : (z : meaning.Answer Machine Reply) →
+      printedOf b rs z ≡ told (numberOf z) (stampOf z) (countTwos (recordsOf b z rs) (shownAt (onMachine b) (recordsOf b z rs) (outcomeOf z))) (linesFrom 0 (recordsOf b z rs) (shownAt (onMachine b) (recordsOf b z rs) (outcomeOf z)))
+  unfolding printedOf told isRefusal lastLine
+  printed-told (meaning.settled v) = refl
+  printed-told (meaning.stopped crowded t v) = refl
+  printed-told (meaning.stopped differ t v) = refl
+  printed-told (meaning.stopped lost t v) = refl
+
+  number-small : (z : meaning.Answer Machine Reply) → numberOf z ≤ largest
+  number-small (meaning.settled v) = omega arith
+  number-small (meaning.stopped crowded t v) = omega arith
+  number-small (meaning.stopped differ t v) = omega arith
+  number-small (meaning.stopped lost t v) = omega arith
+
+lines-most : (ps : List Record) (ys : List Reply) → length (replyLines ps ys) ≤ 4 * length ps
+unfolding replyLines
+lines-most [] ys = omega arith
+lines-most (r ∷ ps) [] = omega arith
+lines-most (r ∷ ps) (y ∷ ys) = omega (arith, lines-most ps ys)
+
+padded-length : (w : List ℕ) → length w ≤ repliesLength → length (padded w) ≡ repliesLength
+unfolding padded
+padded-length w h = length-append w _ ∙ omega (arith, length-replicate {A = ℕ} (repliesLength - length w) 0)
+
+-- ---- a readable text within the limit, on buffers that fit
+module _ {text : List ℕ} {x : Buffers} {e : Ended} (p : Replays text x e) (f : fit x ≡ true) (l : length text ≤ textLimit) {b : Board} {rs : List Record} (q : Readable text b rs)
+    (z : meaning.Answer Machine Reply) (means : Means (onMachine b) rs (machineAtStart b (x .images)) z) where
+  abbrev start : Machine
+  start = machineAtStart b (x .images)
+
+  -- the records that are shown, and what is said to them
+  abbrev ps : List Record
+  ps = recordsOf b z rs
+
+  abbrev ys : List Reply
+  ys = said (onMachine b) ps start
+
+  left : e ≡ leftBy b (numberOf z) (stampOf z) ps start
+  left = means-shown p f l q z means ∙ left-shown b rs (readable-back q) start z means
+
+  replies-left : e .buffers .replies ≡ padded (replyLines ps ys)
+  unfolding leftBy
+  replies-left = ap (λ (w : Ended). w .buffers .replies) left
+
+  result-left : e .buffers .result ≡ resultBytes (numberOf z) (stampOf z) (countTwos ps ys)
+  unfolding leftBy
+  result-left = ap (λ (w : Ended). w .buffers .result) left
+
+  -- they are the first of the text's records
+  shown-front : (rest : List Record) × (rs ≡ ps ++ rest)
+  shown-front = front z
+    where
+      front : (z : meaning.Answer Machine Reply) → (rest : List Record) × (rs ≡ recordsOf b z rs ++ rest)
+      front (meaning.settled v) = ([], sym (append-nil rs))
+      front (meaning.stopped n t v) = early-front (λ (r : Record). r .stamp) t rs (q .acceptable .never-back)
+
+  shown-few : length ps ≤ 9360
+  shown-few = omega (arith, few-records q l, ap length (shown-front .1), length-append ps (shown-front .0))
+
+  stamp-small : stampOf z ≤ largest
+  unfolding Means
+  stamp-small = small z means
+    where
+      small : (z : meaning.Answer Machine Reply) → Means (onMachine b) rs start z → stampOf z ≤ largest
+      small (meaning.settled v) m = omega arith
+      small (meaning.stopped n t v) m = stops-earliest p f l q n t .1 (m .0) .stamp
+
+  -- exactly the records that are shown were played, so exactly these are listed
+  pub exactly-played : (records : List Record) → Listed text (e .buffers .replies) records → records ≡ recordsOf b z rs
+  exactly-played records h =
+      let w = e .buffers .replies in
+      one-listed text w records (played w 0 rs) h (readable-listed text w b rs q)
+      ∙ ap₂ (λ (k : List ℕ) (o : List Record). played k 0 o) replies-left (shown-front .1)
+      ∙ played-left b ps start (shown-front .0)
+
+  -- and the listing is what is printed of the answer
+  pub listing-printed : (records : List Record) → Listed text (e .buffers .replies) records → listingOf records (e .buffers .replies) (e .buffers .result) ≡ printedOf b rs z
+  listing-printed records h =
+      let lines = linesFrom 0 ps ys in
+      let same : recordLines (e .buffers .replies) 0 records ≡ lines = ap₂ (λ (k : List ℕ) (o : List Record). recordLines k 0 o) replies-left (exactly-played records h) ∙ lines-left b ps start in
+      listing-told records (e .buffers .replies) (e .buffers .result)
+      ∙ ap (told _ _ _) same
+      ∙ result-told (numberOf z) (stampOf z) (countTwos ps ys) lines (e .buffers .result) (number-small b rs z) stamp-small (omega (arith, count-most ps ys, shown-few)) result-left
+      ∙ sym (printed-told b rs z ∙ ap (λ (k : List Reply). told (numberOf z) (stampOf z) (countTwos ps k) (linesFrom 0 ps k)) (means-lines b rs (readable-back q) start z means .1))
+
+  pub lengths-left : (length (e .buffers .replies) ≡ repliesLength) × (length (e .buffers .result) ≡ resultLength)
+  unfolding resultBytes
+  lengths-left = (ap length replies-left ∙ padded-length (replyLines ps ys) (omega (arith, lines-most ps ys, shown-few)), ap length result-left)
+
+-- ---- a refusal
+answer-small : (a : Answer) → answerNumber a ≤ largest
+answer-small Settled = omega arith
+answer-small BadBuffers = omega arith
+answer-small TooLong = omega arith
+answer-small BadLine = omega arith
+answer-small BackInTime = omega arith
+answer-small Impossible = omega arith
+answer-small Crowded = omega arith
+answer-small OrdersDiffer = omega arith
+answer-small StatusLost = omega arith
+
+module _ (x : Buffers) {e : Ended} (a : Answer) (line : ℕ) (q : e ≡ refusedAs a line x) (room : length (x .result) ≡ resultLength) where
+  result-refused : e .buffers .result ≡ resultBytes (answerNumber a) line 0
+  unfolding refusedAs
+  result-refused = ap (λ (w : Ended). w .buffers .result) q ∙ result-written (answerNumber a) line 0 (x .result) room
+
+  pub listing-refused : isRefusal (answerNumber a) ≡ true → line ≤ largest → (records : List Record) → listingOf records (e .buffers .replies) (e .buffers .result) ≡ refusedLine (answerNumber a) line
+  unfolding told
+  listing-refused is h records =
+      let lines = recordLines (e .buffers .replies) 0 records in
+      listing-told records (e .buffers .replies) (e .buffers .result)
+      ∙ result-told (answerNumber a) line 0 lines (e .buffers .result) (answer-small a) h (omega arith) result-refused
+      ∙ ap (λ (t : Bool). pick t (refusedLine (answerNumber a) line) (heading ++ (lines ++ lastLine (answerNumber a) line 0))) is
+
+  pub lengths-refused : length (x .replies) ≡ repliesLength → (length (e .buffers .replies) ≡ repliesLength) × (length (e .buffers .result) ≡ resultLength)
+  unfolding refusedAs resultBytes
+  lengths-refused l = (ap (λ (w : Ended). length (w .buffers .replies)) q ∙ l, ap length result-refused)
+
+-- 3, 4 and 5 are refusals
+pub line-refusal : {a : Answer} → OfLine a → isRefusal (answerNumber a) ≡ true
+unfolding isRefusal
+line-refusal three = refl
+line-refusal four = refl
+line-refusal five = refl

@@ -1,4 +1,0 @@
--- The loop over the stamps.
-pub mod Reaching
-pub mod Loop
-pub mod Ends
