@@ -85,26 +85,35 @@ build_program() {
   quietly target/tests/program.log rt check replay
 }
 
-# cargo on tests/rust, for release, its files under target/.
+# cargo_release PACKAGE WORD..: cargo on a package of tests/, for release, its files under target/.
 cargo_release() {
-  local what=$1
-  shift
-  CARGO_TARGET_DIR=$PWD/target/tests/rust cargo "$what" --release --locked --offline --manifest-path tests/rust/Cargo.toml "$@"
+  local package=$1 what=$2
+  shift 2
+  CARGO_TARGET_DIR=$PWD/target/tests/$package \
+    cargo "$what" --release --locked --offline --manifest-path "tests/$package/Cargo.toml" "$@"
 }
 
 CHECK=target/tests/rust/release/hazelcrook-check
+PLAIN=target/tests/plain/release/hazelcrook-plain
+PLAIN_LIBRARY=target/tests/plain/release/libhazelcrook_plain.a
 
 # The plain model with its comparison.
 build_check() {
   need cargo cargo rustc || return 1
-  quietly target/tests/check.log cargo_release build
+  quietly target/tests/check.log cargo_release rust build
 }
 
-# build_c PROGRAM SOURCE FLAG..: a C program with the library, every warning an error.
+# The replay in plain Rust, beside which the library is measured: a program and a library.
+build_plain() {
+  need cargo cargo rustc || return 1
+  quietly target/tests/plain.log cargo_release plain build
+}
+
+# build_c PROGRAM SOURCE WORD..: a C program with the library, every warning an error; words are flags and further files.
 build_c() {
   local program=$1 source=$2
   shift 2
-  quietly "$program.log" "$CC" -std=c11 -O2 -Wall -Wextra -Werror -pedantic -Iinclude "$@" -o "$program" "$source" "$LIBRARY"
+  quietly "$program.log" "$CC" -std=c11 -O2 -Wall -Wextra -Werror -pedantic -Iinclude -o "$program" "$source" "$@" "$LIBRARY"
 }
 
 passed=0

@@ -1,12 +1,11 @@
 -- No bit is set in both: the loop that looks from the front, and what it says of every place. Assumes nothing.
 use mathlib.Core.Path.{_≡_, refl, sym, ap, _∙_}
 use mathlib.Core.Bool.{Bool, true, false}
-use mathlib.Core.Logic.{_≢_}
 use mathlib.Core.List.{List, [], _∷_}
 use Prim.Native.Nat.{ℕ, zero, suc, _+_, _≤_, _<_}
 use native.Mathlib.Numerals.{add-one}
 use native.Mathlib.Omega.{arith}
-use borrow.Author.Tests.{eq-eqb, ne-eqb, eqb-true}
+use borrow.Author.Tests.{eq-eqb, eqb-true}
 use lib.Bits.{bitAnd, and-zero-l, and-zero-r}
 use lib.Dec.{eqb}
 use lib.ListN.{length, getD, drop, drop-of-length-le}
@@ -23,18 +22,17 @@ module _ (vs ms : List ℕ) (i : ℕ) (same : length ms ≡ length vs) where
   unfolding clear
   cut h = rw (add-one, drop-cons vs i 0 (omega arith), drop-cons ms i 0 (omega arith))
 
-  -- a place where no bit is in both: the rest decides
-  pub clear-next : i < length vs → bitAnd (getD vs i 0) (getD ms i 0) ≡ 0 → clear (drop (i + 1) vs) (drop (i + 1) ms) ≡ clear (drop i vs) (drop i ms)
-  clear-next h e = sym (cut h ∙ ap (λ (t : Bool). pick t (clear (drop (i + 1) vs) (drop (i + 1) ms)) false) (eq-eqb _ _ e))
-
-  -- a place where one is
-  pub clear-not : i < length vs → bitAnd (getD vs i 0) (getD ms i 0) ≢ 0 → clear (drop i vs) (drop i ms) ≡ false
-  clear-not h n = cut h ∙ ap (λ (t : Bool). pick t (clear (drop (i + 1) vs) (drop (i + 1) ms)) false) (ne-eqb _ _ n)
+  -- the flag so far, with the places from i on, says whether all are clear; so does the flag with the next place, and the rest
+  pub clear-on : (ok r : Bool) → i < length vs → r ≡ pick ok (eqb (bitAnd (getD vs i 0) (getD ms i 0)) 0) false →
+      pick r (clear (drop (i + 1) vs) (drop (i + 1) ms)) false ≡ pick ok (clear (drop i vs) (drop i ms)) false
+  clear-on true r h e = ap (λ (t : Bool). pick t (clear (drop (i + 1) vs) (drop (i + 1) ms)) false) e ∙ sym (cut h)
+  clear-on false r h e = ap (λ (t : Bool). pick t (clear (drop (i + 1) vs) (drop (i + 1) ms)) false) e
 
   -- no place is left
-  pub clear-end : length vs ≤ i → clear (drop i vs) (drop i ms) ≡ true
+  pub clear-end : (ok : Bool) → length vs ≤ i → pick ok (clear (drop i vs) (drop i ms)) false ≡ ok
   unfolding clear
-  clear-end h = ap (λ (l : List ℕ). clear l (drop i ms)) (drop-of-length-le vs {i = i} h)
+  clear-end true h = ap (λ (l : List ℕ). clear l (drop i ms)) (drop-of-length-le vs {i = i} h)
+  clear-end false h = refl
 
 -- at every place, also past the ends
 pub clear-at : (vs ms : List ℕ) → clear vs ms ≡ true → (k : ℕ) → bitAnd (getD vs k 0) (getD ms k 0) ≡ 0

@@ -54,19 +54,18 @@ fn image_fits(chip: Chip, values: &[u8], masks: &[u8]) -> bool
     masks.len() == kept
 }
 
-// No bit is set in both.
+// No bit is set in both. Every place is looked at (`law::both`).
 fn is_clear(values: &[u8], masks: &[u8]) -> bool
     requires { ⌜ length (now masks) ≡ length (now values) ⌝ }
     ensures { λ r. ⌜ r ≡ clear (now (values .entry)) (now (masks .entry)) ⌝ }
 {
+    let mut ok = true;
     let mut i = 0;
     while i < values.len() {
-        if values[i] & masks[i] != 0 {
-            return false;
-        }
+        ok = law::both(ok, values[i] & masks[i] == 0);
         i += 1;
     }
-    true
+    ok
 }
 
 // The result: the answer's number, a line or a stamp, a count.

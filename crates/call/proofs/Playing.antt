@@ -1,5 +1,5 @@
 -- What records played as they are written leave on the desk: the machine after them, their replies in turn, and how many disagree.
-use mathlib.Core.Path.{_≡_, refl, sym, ap, ap₂, _∙_}
+use mathlib.Core.Path.{_≡_, refl, sym, ap, _∙_}
 use mathlib.Core.List.{List, [], _∷_, _++_, append-assoc}
 use Prim.Native.Nat.{ℕ, _+_, _*_, _≤_, _<_}
 use native.Mathlib.Omega.{arith}
@@ -11,7 +11,6 @@ use Rattle.record.specs.declared.Record.{Record}
 use Rattle.record.specs.declared.Reply.{Reply}
 use Rattle.record.specs.declared.Match.{Match}
 use Rattle.record.specs.declared.Match.the-variants.{Nothing, Agrees, Disagrees}
-use Rattle.record.specs.Replies.{replyBytes}
 use Rattle.law.specs.Rest.{rest-cons, rest-nil}
 use Rattle.controls.specs.declared.Controls.{Controls}
 use Rattle.image.specs.Images.{Images}
@@ -30,16 +29,15 @@ two-most Nothing = omega arith
 two-most Agrees = omega arith
 two-most Disagrees = omega arith
 
--- what the calls of `play_one` make together
-pub played-one : (b : Board) (c c′ : Controls) (x x′ : Images) (old new : List ℕ) (number count t : ℕ) (r : Record) (y : Reply) (m : Match) →
-    machineOf c′ x′ ≡ playOn b (machineOf c x) r → y ≡ saysOn b (machineOf c x) r → m ≡ compared (r .event) y → new ≡ repliesWith number (replyBytes y m) old → t ≡ twos m →
-    deskOf c′ x′ new (number + 1) (count + t) ≡ stepDesk b (deskOf c x old number count) r
+-- what playing a record and writing its reply make together; n is the next record's number
+pub played-one : (b : Board) (c c′ : Controls) (x x′ : Images) (old new : List ℕ) (number n count t : ℕ) (r : Record) (y : Reply) → n ≡ number + 1 →
+    machineOf c′ x′ ≡ playOn b (machineOf c x) r → y ≡ saysOn b (machineOf c x) r → (new ≡ repliesWith number (replyLine r y) old) × (t ≡ twos (compared (r .event) y)) →
+    deskOf c′ x′ new n (count + t) ≡ stepDesk b (deskOf c x old number count) r
 unfolding stepDesk
-played-one b c c′ x x′ old new number count t r y m hm hy hc hn ht =
-    let k : m ≡ compared (r .event) (saysOn b (machineOf c x) r) = hc ∙ ap (compared (r .event)) hy in
-    let g = hn ∙ ap₂ (λ (z : Reply) (k : Match). repliesWith number (replyBytes z k) old) hy k in
-    let n = ap (λ (k : ℕ). count + k) (ht ∙ ap twos k) in
-    λ i. record { machine = hm i; replies = g i; number = number + 1; count = n i }
+played-one b c c′ x x′ old new number n count t r y e hm hy h =
+    let g = h .0 ∙ ap (λ (z : Reply). repliesWith number (replyLine r z) old) hy in
+    let k = ap (λ (k : ℕ). count + k) (h .1 ∙ ap (λ (z : Reply). twos (compared (r .event) z)) hy) in
+    λ i. record { machine = hm i; replies = g i; number = e i; count = k i }
 
 module _ (b : Board) where
   -- a turn of `play_all`: what is left to play gives the whole
@@ -51,6 +49,10 @@ module _ (b : Board) where
   pub turned : (records : List Record) (many k : ℕ) (d₀ d : Desk) → many ≤ length records → many ≤ k → runDesk b (drop k (take many records)) d ≡ runDesk b (take many records) d₀ → d ≡ runDesk b (take many records) d₀
   unfolding runDesk
   turned records many k d₀ d l h q = rw (rest-nil records many k l h) at q
+
+  -- a stamp of one record is one turn
+  pub turned-alone : (records : List Record) (d₀ d : Desk) (x : Record) → 1 ≤ length records → d ≡ stepDesk b d₀ (getD records 0 x) → d ≡ runDesk b (take 1 records) d₀
+  turned-alone records d₀ d x l e = turned records 1 1 d₀ d l (omega arith) (turn records 1 0 d₀ d₀ d x l (omega arith) e refl)
 
   pub run-machine : (o : List Record) (d : Desk) → runDesk b o d .machine ≡ after (onMachine b) o (d .machine)
   unfolding runDesk stepDesk after

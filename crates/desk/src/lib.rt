@@ -10,8 +10,10 @@ ghost use Rattle.image.specs.View.{viewPlace, viewLength};
 ghost use Rattle.record.specs.Lengths.{repliesLength, resultLength};
 ghost use Rattle.buffers.specs.Buffers.{buffersOf, resultAfter};
 ghost use Rattle.record.specs.Answers.{answerNumber};
-ghost use Rattle.call.specs.Play.{twos};
-ghost use Rattle.call.specs.Steps.{deskOf, stepDesk, runDesk};
+ghost use Rattle.call.specs.Play.{twos, replyLine};
+ghost use Rattle.call.specs.Steps.{deskOf, runDesk};
+ghost use Rattle.buffers.specs.Put.{repliesWith};
+ghost use Rattle.machine.specs.Replies.{compared};
 ghost use Rattle.call.specs.Replay.{endedAs, Replays, chipOf};
 ghost use Rattle.call.specs.Run.{endedWith, Runs, goesOn};
 ghost use Rattle.orders.specs.Verdicts.{verdictAnswer};
@@ -22,6 +24,7 @@ use record::Board;
 use record::Chip;
 use record::Match;
 use record::Record;
+use record::Reply;
 use text::Checked;
 
 // 1 for a match 2, that is a reply that disagrees.
@@ -35,39 +38,15 @@ fn two(m: Match) -> u32
     }
 }
 
-struct Stepped {
-    controls: Controls,
-    count: u32,
-}
-
-// One record is played, its reply written, its match counted.
-fn play_one(
-    board: Board,
-    controls: Controls,
-    rec: Record,
-    number: usize,
-    count: u32,
-    flash: &mut [u8],
-    flash_mask: &mut [u8],
-    eeprom: &mut [u8],
-    eeprom_mask: &mut [u8],
-    replies: &mut [u8],
-) -> Stepped
-    requires { ⌜ count ≤ 1000000 ⌝ }
-    ensures { λ r. ⌜ deskOf (r .controls) (imagesOf (now (flash .exit)) (now («flash_mask» .exit)) (now (eeprom .exit)) (now («eeprom_mask» .exit))) (now (replies .exit)) (number + 1) (r .count)
-        ≡ stepDesk board (deskOf controls (imagesOf (now (flash .entry)) (now («flash_mask» .entry)) (now (eeprom .entry)) (now («eeprom_mask» .entry))) (now (replies .entry)) number count) rec ⌝ }
-    ensures { λ r. ⌜ r .count ≤ count + 1 ⌝ }
+// A reply is compared and written; 1 where it disagrees.
+fn put_compared(rec: Record, number: usize, reply: Reply, replies: &mut [u8]) -> u32
+    ensures { λ r. ⌜ (now (replies .exit) ≡ repliesWith number (replyLine rec reply) (now (replies .entry))) × (r ≡ twos (compared (rec .event) reply)) ⌝ }
+    ensures { λ r. ⌜ r ≤ 1 ⌝ }
 {
-    let played = machine::play(board, controls, rec, flash, flash_mask, eeprom, eeprom_mask);
-    let reply = played.reply;
-    let next = played.controls;
     let event = rec.event;
     let m = machine::compare(event, reply);
     buffers::put_reply(replies, number, reply, m);
-    Stepped {
-        controls: next,
-        count: count + two(m),
-    }
+    two(m)
 }
 
 struct Done {
@@ -100,20 +79,10 @@ fn play_all(
     let mut k: usize = 0;
     while k < many {
         let rec = records[k];
-        let step = play_one(
-            board,
-            cur,
-            rec,
-            number + k,
-            c,
-            flash,
-            flash_mask,
-            eeprom,
-            eeprom_mask,
-            replies,
-        );
-        cur = step.controls;
-        c = step.count;
+        let played = machine::play(board, cur, rec, flash, flash_mask, eeprom, eeprom_mask);
+        let reply = played.reply;
+        c += put_compared(rec, number + k, reply, replies);
+        cur = played.controls;
         k += 1;
     }
     Done {
@@ -163,7 +132,7 @@ fn at_most(n: usize) -> usize
     }
 }
 
-// Stamp by stamp: judged on the controls, then played.
+// Stamp by stamp: judged on the controls, then played. A stamp of one record, as most are, is played without a loop of its own.
 fn run(
     text: &[u8],
     first: usize,
@@ -193,6 +162,16 @@ fn run(
             };
         }
         let records = j.records;
+        if j.count == 1 {
+            let alone = records[0];
+            let played = machine::play(board, cur, alone, flash, flash_mask, eeprom, eeprom_mask);
+            let reply = played.reply;
+            count += put_compared(alone, number, reply, replies);
+            cur = played.controls;
+            number += 1;
+            place = j.next;
+            continue;
+        }
         let many = at_most(j.count);
         let done = play_all(
             board,

@@ -1,10 +1,9 @@
 -- Frames, cycles and counters are the same where their numbers are; a chip is the same where its parts are.
 -- Assumes nothing.
-use mathlib.Core.Bool.{Bool, true}
-use mathlib.Core.Path.{_≡_, refl, sym, ap, _∙_}
+use mathlib.Core.Bool.{Bool}
+use mathlib.Core.Path.{_≡_, refl, ap}
 use lib.Dec.{eqb}
 use Rattle.law.specs.declared.Numbers.{Numbers}
-use Rattle.law.specs.Choice.{true-not-false}
 use Rattle.law.specs.Words.{pick}
 use Rattle.law.specs.Deciding.{Decides}
 use Rattle.law.specs.Numbers.{by-numbers, flagOf, flag-back}
@@ -70,7 +69,3 @@ chip-cong a b f c n p i = record { frame = f i; cycle = c i; counter = n i; page
 
 pub sent-cong : (s t : Sent) → s .page ≡ t .page → s .first ≡ t .first → s .count ≡ t .count → s ≡ t
 sent-cong s t p f c i = record { page = p i; first = f i; count = c i }
-
--- what is true exactly where P holds decides P
-pub decides-iff : (b : Bool) {P : Type 0} → (b ≡ true → P) × (P → b ≡ true) → Decides b P
-decides-iff b d = record { holds = d .0; fails = λ e p. true-not-false (sym (d .1 p) ∙ e) }

@@ -342,5 +342,5 @@ pub fn same(a: Eeprom, b: Eeprom) -> bool
     }
     let pa = a.page;
     let pb = b.page;
-    check::same(&pa, &pb)
+    page::same(&pa, &pb)
 }

@@ -1,5 +1,5 @@
 -- The hex field.
-use Prim.Native.Nat.{ℕ, suc, zero, _+_, _*_, _/_, _%_, _≤_, _<_}
+use Prim.Native.Nat.{ℕ, suc, zero, _+_, _-_, _*_, _/_, _%_, _≤_, _<_, min}
 use native.Mathlib.Omega.{arith}
 use native.Mathlib.Nat.{add-zero, div-add-mod', add-sub-cancel-left}
 use mathlib.Core.Path.{_≡_, refl, sym, ap, _∙_}
@@ -12,9 +12,10 @@ use borrow.Author.Tests.{lt-ltb, le-ltb, le-leb, lt-leb, ltb-false, leb-true}
 use Rattle.field.specs.declared.hex.Nibble.{Nibble}
 use Rattle.field.specs.declared.hex.Nibble.the-variants.{Value, Bad}
 use Rattle.field.specs.declared.hex.ReadHex.{ReadHex}
+use Rattle.law.specs.Words.{pick}
 use Rattle.law.specs.Choice.{pick-says, lt-or-le}
 use Rattle.field.specs.Hex.{hexDigit, hexField}
-use Rattle.field.specs.Readers.{nibbleOf, ReadsHex}
+use Rattle.field.specs.Readers.{digitValue, letterValue, nibbleOf, ReadsHex}
 use Rattle.field.specs.Reads.{Stands}
 use Rattle.field.proofs.Reading.{stands-getD, stands-length, stands-of, none, one}
 
@@ -93,3 +94,40 @@ unhex a b = digitOf (nibbleOf a) * 16 + digitOf (nibbleOf b)
 pub unhex-is : (x : ℕ) → x < 256 → unhex (hexDigit (x / 16)) (hexDigit (x % 16)) ≡ x
 unfolding unhex digitOf
 unhex-is x h = rw (nibble-digit (x / 16) (omega arith), nibble-digit (x % 16) (omega arith)) (div-add-mod' x 16)
+
+-- a hex digit is a digit or a letter: of its two values one is below 16, and of any other byte none
+module _ (b d l v : ℕ) (digit : d ≡ digitValue b) (letter : l ≡ letterValue b) (less : v ≡ min d l) where
+  value-low : b < 97 → l ≡ 16
+  value-low p = letter ∙ simp (lt-ltb b 97 p)
+
+  value-high : 57 < b → d ≡ 16
+  value-high p = digit ∙ simp (le-ltb b 48 (omega arith), lt-leb b 57 p)
+
+  pub nibble-lesser : nibbleOf b ≡ pick (ltb v 16) (Value v) Bad
+  nibble-lesser =
+      ⊎-elim (λ (p : b < 48).
+      let m : d ≡ 16 = digit ∙ simp (lt-ltb b 48 p) in
+      let n = value-low (omega arith) in
+      simp (lt-ltb b 48 p, le-ltb v 16 (omega arith)))
+      (λ (p : 48 ≤ b). ⊎-elim (λ (q : 57 < b). ⊎-elim (λ (r : b < 97).
+      let m = value-high q in
+      let n = value-low r in
+      simp (le-ltb b 48 p, lt-leb b 57 q, lt-ltb b 97 r, le-ltb v 16 (omega arith)))
+      (λ (r : 97 ≤ b). ⊎-elim (λ (s : 102 < b).
+      let m = value-high q in
+      let n : l ≡ 16 = letter ∙ simp (le-ltb b 97 r, lt-leb b 102 s) in
+      simp (le-ltb b 48 p, lt-leb b 57 q, le-ltb b 97 r, lt-leb b 102 s, le-ltb v 16 (omega arith)))
+      (λ (s : b ≤ 102).
+      let m = value-high q in
+      let n : l ≡ b - 87 = letter ∙ simp (le-ltb b 97 r, le-leb b 102 s) in
+      let o : v ≡ b - 87 = omega arith in
+      simp (le-ltb b 48 p, lt-leb b 57 q, le-ltb b 97 r, le-leb b 102 s, o, lt-ltb (b - 87) 16 (omega arith)))
+      (lt-or-le 102 b))
+      (lt-or-le b 97))
+      (λ (q : b ≤ 57).
+      let m : d ≡ b - 48 = digit ∙ simp (le-ltb b 48 p, le-leb b 57 q) in
+      let n = value-low (omega arith) in
+      let o : v ≡ b - 48 = omega arith in
+      simp (le-ltb b 48 p, le-leb b 57 q, o, lt-ltb (b - 48) 16 (omega arith)))
+      (lt-or-le 57 b))
+      (lt-or-le b 48)

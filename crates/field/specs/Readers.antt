@@ -40,3 +40,10 @@ nibbleOf b =
     pick (ltb b 48) Nibble.Bad
     (pick (leb b 57) (Nibble.Value (b - 48))
     (pick (ltb b 97) Nibble.Bad (pick (leb b 102) (Nibble.Value (b - 87)) Nibble.Bad)))
+
+-- the same as a number, of the digits 0 to 9 alone and of the letters a to f alone; 16 for any other byte
+abbrev pub digitValue : ℕ → ℕ
+digitValue b = pick (ltb b 48) 16 (pick (leb b 57) (b - 48) 16)
+
+abbrev pub letterValue : ℕ → ℕ
+letterValue b = pick (ltb b 97) 16 (pick (leb b 102) (b - 87) 16)

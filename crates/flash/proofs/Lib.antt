@@ -3,3 +3,4 @@ pub mod Bounds
 pub mod Worked
 pub mod Written
 pub mod Laws
+pub mod Lost

@@ -95,5 +95,5 @@ pub(crate) fn same_status(a: FlashStatus, b: FlashStatus) -> bool
 pub(crate) fn same_page(a: FlashPage, b: FlashPage) -> bool
     ensures { λ r. ⌜ Decides r (a ≡ b) ⌝ }
 {
-    check::same(&a, &b)
+    page::same(&a, &b)
 }

@@ -1,6 +1,8 @@
 // What every floor cites: laws about choices, yes-or-no answers, lists and places, and the equality of enums by their numbers.
 // It knows nothing of chips or traces.
 ghost use mathlib.Core.Path.{_≡_};
+ghost use mathlib.Core.Bool.{false};
+ghost use Rattle.law.specs.Words.{pick};
 ghost use Rattle.law.specs.Numbers.{numbersOf};
 ghost use Rattle.law.specs.Deciding.{Decides};
 
@@ -42,4 +44,11 @@ pub fn same_numbers(x: Numbers, y: Numbers) -> bool
         return false;
     }
     x.d == y.d
+}
+
+// Whether both hold, where the second has been asked already: a loop that asks all has no way out, so that a machine may ask many at once.
+pub fn both(x: bool, y: bool) -> bool
+    ensures { λ r. ⌜ r ≡ pick x y false ⌝ }
+{
+    if x { y } else { false }
 }

@@ -1,5 +1,5 @@
 -- What the branches of `bus_next` and `line_next` decide.
-use mathlib.Core.Path.{_≡_, refl, sym, ap, _∙_}
+use mathlib.Core.Path.{_≡_, refl, sym, ap, subst, _∙_}
 use mathlib.Core.Bool.{Bool, false}
 use mathlib.Core.List.{List, [], _∷_, _++_, append-assoc, append-nil}
 use Prim.Native.Nat.{ℕ, _+_, _≤_, _<_}
@@ -8,9 +8,10 @@ use native.Mathlib.Omega.{arith}
 use lib.ListN.{length, take, getD, set, length-set}
 use lib.Seq.{take-suc-set}
 use Rattle.meaning.specs.Meaning.{F, most}
-use Rattle.law.specs.Deciding.{Decides, decides-false, decides-as}
+use Rattle.law.specs.Deciding.{Decides, decides-true, decides-false, decides-as}
 use Rattle.law.specs.Rest.{rest-cons, rest-nil}
 use Rattle.record.specs.declared.Record.{Record}
+use Rattle.record.specs.declared.Skeleton.the-variants.{Silent}
 use Rattle.controls.specs.declared.Controls.{Controls}
 use Rattle.controls.specs.declared.Moved.{Moved}
 use Rattle.controls.specs.Play.{movedOf}
@@ -19,7 +20,7 @@ use Rattle.tied.proofs.Orders.{after-reference, replies-reference, reference-tw
 use Rattle.orders.specs.declared.Said.{Said}
 use Rattle.orders.specs.declared.Tied.{Tied}
 use Rattle.orders.specs.declared.Outcome.{Outcome}
-use Rattle.orders.specs.Stamp.{BusesPlayed, Reference, Settled, bus, reply, line, busesFrom, linesFrom, AgreeFrom, BusAgrees, LineAgrees}
+use Rattle.orders.specs.Stamp.{BusesPlayed, Reference, Settled, bus, reply, line, busesFrom, linesFrom, AgreeFrom, BusAgrees, LineAgrees, Met}
 
 -- the arrays are as long as they are declared
 pub record Whole (h : Tied) (w : Outcome) : Type 0 where
@@ -82,6 +83,46 @@ module _ (h : Tied) (w : Outcome) (u : Whole h w) (ib il : ℕ) (s : Controls) (
       decides-as (rw e at g)
       (λ a. rw rs (agree-rest (bus h) (reply h) (line h) s (w .controls) r _ _ _ _ e₀ a))
       (λ a. rest-agree (bus h) (reply h) (line h) s (w .controls) r _ _ _ _ (rw rs at a))
+
+unsaid : Said
+unsaid = record { reply = Silent }
+
+-- what every order of the rest, from where a record leads, says of the orders that begin with it, and the other way round
+module _ (h : Tied) (w : Outcome) (u : Whole h w) (ib il : ℕ) (s : Controls) where
+  pub closing : (r : Record) (d : Said) → ib < h .«bus_count» → (m : Controls) → movedOf (h .board) s r ≡ record { controls = m; reply = getD (w .replies) ib d .reply } → AgreeFrom h (ib + 1) il m w → BusAgrees r h ib il s w
+  closing r d p m e a =
+      after-bus h w u ib il s r d p (movedOf (h .board) s r) refl (ap (λ (x : Moved). x .reply) e)
+      (decides-true (subst (λ (x : Moved). AgreeFrom h (ib + 1) il (x .controls) w) (sym e) a)) .holds refl
+
+  bus-after : (r : Record) → ib < h .«bus_count» → BusAgrees r h ib il s w → AgreeFrom h (ib + 1) il (bus h s r) w
+  unfolding AgreeFrom BusAgrees
+  bus-after r p a = rest-agree (bus h) (reply h) (line h) s (w .controls) r _ _ _ _ (rw (rest-cons (w .replies) _ ib (u .replies) unsaid p) at a)
+
+  line-after : (d : Record) → il < h .«line_count» → (n : Controls) → n ≡ line h s (getD (h .lines) il d) → AgreeFrom h ib il s w → AgreeFrom h ib (il + 1) n w
+  unfolding AgreeFrom
+  line-after d q n e a = rw e (line-agree (bus h) (reply h) (line h) s (w .controls) _ (rw (rest-cons (h .lines) _ il (u .lines) d q) at a))
+
+-- where a bus record was played and then a line record, and where the next line record follows
+module _ (h : Tied) (w : Outcome) (u : Whole h w) (ib il : ℕ) where
+  pub meets : (s : Controls) (b : Record) → ib < h .«bus_count» → (d : Record) → il < h .«line_count» → (m : Controls) → m ≡ line h (bus h s b) (getD (h .lines) il d) → BusAgrees b h ib il s w → Met h ib il m w
+  unfolding Met
+  meets s b p d q m e a = λ _. line-after h w u (ib + 1) il (bus h s b) d q m e (bus-after h w u ib il s b p a)
+
+  pub meets-on : (m : Controls) (d : Record) → il + 1 < h .«line_count» → (n : Controls) → n ≡ line h m (getD (h .lines) (il + 1) d) → Met h ib il m w → Met h ib (il + 1) n w
+  unfolding Met
+  meets-on m d q n e k = λ p. line-after h w u (ib + 1) (il + 1) m d q n e (k p)
+
+beyond : {m n : ℕ} → m ≤ n → n < m → ⊥
+beyond p q = omega arith
+
+module _ (h : Tied) (w : Outcome) (ib il : ℕ) (m : Controls) where
+  pub meets-none : h .«bus_count» ≤ ib → Met h ib il m w
+  unfolding Met
+  meets-none p = λ q. absurd (beyond p q)
+
+  pub met : Met h ib il m w → ib < h .«bus_count» → AgreeFrom h (ib + 1) (il + 1) m w
+  unfolding Met
+  met k p = k p
 
 pub after-line : (h : Tied) (w : Outcome) (ib il : ℕ) (s : Controls) (r : Record) (n : Controls) → n ≡ line h s r → {b : Bool} → Decides b (AgreeFrom h ib (il + 1) n w) → Decides b (LineAgrees r h ib il s w)
 unfolding AgreeFrom LineAgrees

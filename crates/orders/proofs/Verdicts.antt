@@ -1,5 +1,5 @@
 -- What the branches of `judge` show.
-use mathlib.Core.Path.{_≡_, refl, sym, ap, subst, _∙_}
+use mathlib.Core.Path.{_≡_, refl, ap, subst, _∙_}
 use mathlib.Core.Bool.{Bool, true, false, not}
 use Prim.Native.Nat.{_≤_}
 use native.Mathlib.Omega.{arith}
@@ -61,10 +61,10 @@ module _ (h : Held) (b : Board) (s : Controls) (f : Few h) where
     all-agree E n = passed l i
     all-agree L n = absurd (true-not-false n)
 
-    pub is-lost : (x : Controls) (r : Bool) → x ≡ lastOf b h s → r ≡ lostOf x → r ≡ true → Judged b h s Lost
+    pub is-lost : (r : Bool) → r ≡ lostOf (lastOf b h s) → r ≡ true → Judged b h s Lost
     unfolding Judged
-    is-lost x r z w t = (f, all-agree, ap lostOf (sym z) ∙ via w t)
+    is-lost r w t = (f, all-agree, via w t)
 
-    pub is-kept : (x : Controls) (r : Bool) → x ≡ lastOf b h s → r ≡ lostOf x → r ≡ false → Judged b h s Passes
+    pub is-kept : (r : Bool) → r ≡ lostOf (lastOf b h s) → r ≡ false → Judged b h s Passes
     unfolding Judged
-    is-kept x r z w t = (f, all-agree, ap lostOf (sym z) ∙ via w t)
+    is-kept r w t = (f, all-agree, via w t)

@@ -1,6 +1,6 @@
 -- The orders of one bus's records with the lines', played on the controls.
 use mathlib.Core.Path.{_≡_}
-use Prim.Native.Nat.{ℕ, _+_, _≤_}
+use Prim.Native.Nat.{ℕ, _+_, _≤_, _<_}
 use mathlib.Core.List.{List}
 use lib.ListN.{take, drop}
 use Rattle.record.specs.declared.Record.{Record}
@@ -54,6 +54,10 @@ LineAgrees r h ib il s w = AgreeFrom h ib (il + 1) (line h s r) w
 unfoldable pub BusAgrees : Record → Tied → ℕ → ℕ → Controls → Outcome → Type 0
 BusAgrees r h ib il s w =
     AgreeBus (bus h) (reply h) (line h) r (busesFrom h (ib + 1)) (linesFrom h il) s (w .controls) (repliesFrom h w ib)
+
+-- where a bus record is left: every order of what follows it and a line record agrees from these controls
+unfoldable pub Met : Tied → ℕ → ℕ → Controls → Outcome → Type 0
+Met h ib il m w = ib < h .«bus_count» → AgreeFrom h (ib + 1) (il + 1) m w
 
 -- all bus records were played
 pub record BusesPlayed (h : Tied) (s : Controls) (w : Outcome) : Type 0 where

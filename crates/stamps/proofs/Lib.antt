@@ -3,3 +3,4 @@ pub mod Sharing
 pub mod Turns
 pub mod Judges
 pub mod Found
+pub mod Lone

@@ -1,11 +1,12 @@
 //! The comparison of a driver with the model and with the hand-written cases.
 
 use crate::driver::{Answer, Driver};
-use crate::fixed;
+use crate::fixed::{self, Start};
 use crate::generate::kinds::{self, Kind};
 use crate::generate::prepared::prepared;
 use crate::generate::random::Random;
 use crate::generate::reorder::reorder;
+use crate::generate::samples;
 use crate::model::call::{Call, REPLIES, RESULT};
 use crate::model::kept::KEPT;
 use crate::model::stamp::Orders;
@@ -41,6 +42,7 @@ const GENERATED: [(&str, usize, Kind); 12] = [
 pub fn check(plan: &Plan) -> io::Result<bool> {
     let mut checker = Checker { driver: Driver::start(&plan.command)?, report: Report::default(), seed: plan.seed };
     checker.fixed_cases()?;
+    checker.measured_traces()?;
     for (name, share, kind) in GENERATED {
         checker.generated(name, (plan.cases * share / 1000).max(8), kind)?;
     }
@@ -105,6 +107,12 @@ impl Checker {
         self.report.close(group);
         self.report.close(of_model);
         Ok(())
+    }
+
+    /// The traces on which the replay is measured, on buffers without dumps.
+    fn measured_traces(&mut self) -> io::Result<()> {
+        let calls = samples::ALL.iter().map(|sample| Start::Doubtful.call(sample.text()));
+        self.compared("traces that are measured", calls, Orders::EachBusWithLines)
     }
 
     fn generated(&mut self, name: &str, count: usize, kind: Kind) -> io::Result<()> {

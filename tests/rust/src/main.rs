@@ -4,12 +4,11 @@
 //!   hazelcrook-check listings REPLAY_COMMAND [--cases N] [--seed S]
 //!   hazelcrook-check serve
 //!   hazelcrook-check listing
-//!   hazelcrook-check bench [--runs N] [--driver DRIVER_COMMAND] FILE...
-//!   hazelcrook-check emit untied|tied [--seed S]
+//!   hazelcrook-check list [growth]
+//!   hazelcrook-check emit NAME
 //!
 //! A command is one word of the shell, its own words parted by blanks.
 
-mod bench;
 mod check;
 mod driver;
 mod fixed;
@@ -20,6 +19,7 @@ mod protocol;
 mod report;
 mod serve;
 
+use generate::samples::{self, Sample};
 use std::env;
 use std::io::{self, Write};
 use std::process::exit;
@@ -34,8 +34,6 @@ struct Arguments {
     plain: Vec<String>,
     cases: Option<usize>,
     seed: Option<u64>,
-    runs: Option<usize>,
-    driver: Option<String>,
     long: bool,
 }
 
@@ -62,8 +60,6 @@ fn arguments(mut words: impl Iterator<Item = String>) -> Option<Arguments> {
         match word.as_str() {
             "--cases" => arguments.cases = Some(words.next()?.parse().ok()?),
             "--seed" => arguments.seed = Some(words.next()?.parse().ok()?),
-            "--runs" => arguments.runs = Some(words.next()?.parse().ok()?),
-            "--driver" => arguments.driver = Some(words.next()?),
             "--long" => arguments.long = true,
             _ => arguments.plain.push(word),
         }
@@ -84,13 +80,22 @@ fn run(mode: &str, arguments: Arguments) -> io::Result<bool> {
         }
         ("serve", []) => serve::serve().map(|()| true),
         ("listing", []) => print(listings::here()?.as_bytes()),
-        ("bench", [_, ..]) => {
-            let runs = arguments.runs.unwrap_or(5);
-            bench::bench(&bench::Plan { files: arguments.plain, runs, driver: arguments.driver }).map(|()| true)
-        }
-        ("emit", [kind]) if kind == "untied" => print(&generate::samples::untied(seed)),
-        ("emit", [kind]) if kind == "tied" => print(&generate::samples::tied(seed)),
+        ("list", []) => print(list(&samples::ALL).as_bytes()),
+        ("list", [growth]) if growth == "growth" => print(list(&samples::GROWTH).as_bytes()),
+        ("emit", [name]) => emit(name),
         _ => Err(io::Error::new(io::ErrorKind::InvalidInput, "no such mode; see the head of src/main.rs")),
+    }
+}
+
+/// The sample traces by name, after the word `tied` or `untied`.
+fn list(samples: &[Sample]) -> String {
+    samples.iter().map(|sample| format!("{} {}\n", if sample.tied { "tied" } else { "untied" }, sample.name)).collect()
+}
+
+fn emit(name: &str) -> io::Result<bool> {
+    match samples::ALL.iter().chain(&samples::GROWTH).find(|sample| sample.name == name) {
+        Some(sample) => print(&sample.text()),
+        None => Err(io::Error::new(io::ErrorKind::InvalidInput, "no such trace; `list` and `list growth` name them")),
     }
 }
 

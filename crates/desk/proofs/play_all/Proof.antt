@@ -6,7 +6,7 @@ use lib.ListN.{length, take, drop}
 use Rattle.meaning.specs.Channels.{mostInAll}
 use Rattle.image.specs.Images.{imagesOf}
 use Rattle.call.specs.Steps.{deskOf, runDesk}
-use Rattle.call.proofs.Playing.{turn, turned}
+use Rattle.call.proofs.Playing.{played-one, turn, turned}
 use Rattle.desk.proofs.play_all.Statement.{statement}
 use Rattle.desk.proofs.play_all.Tie as tie
 
@@ -35,36 +35,42 @@ mul-rec c = search needs
 array-copy-out-rec : tie.Need-array-copy-out-rec Inv-loop μ-loop
 array-copy-out-rec c = search needs
 
-add-play-one : tie.Need-add-play-one Inv-loop μ-loop
-add-play-one c = omega arith
+play-requires : tie.Need-play-requires Inv-loop μ-loop
+play-requires c κs = search needs
 
-play-one-requires : tie.Need-play-one-requires Inv-loop μ-loop
-play-one-requires c κs = omega arith
+add-put-compared : tie.Need-add-put-compared Inv-loop μ-loop
+add-put-compared c = omega arith
+
+put-compared-requires : tie.Need-put-compared-requires Inv-loop μ-loop
+put-compared-requires c κs = search needs
+
+add-c : tie.Need-add-c Inv-loop μ-loop
+add-c c = omega (arith, c .before .before .put-compared .ensures .1, c .before .before .before .before .before .before .before .before .before .before .before .before .before .before .before .before .before .before .before .loop .inv .1, c .before .before .before .before .before .before .before .before .before .before .before .before .before .before .before .before .before .before .loop-test .taken, c .before .before .before .before .before .before .before .before .before .before .before .before .before .before .before .before .before .before .before .before .before .before .before .before .before .pre .0, c .before .before .before .before .before .before .before .before .before .before .before .before .before .before .before .before .before .before .before .before .before .before .before .before .before .pre .1)
 
 add-k : tie.Need-add-k Inv-loop μ-loop
-add-k c = omega (arith, c .before .before .before .before .before .before .before .before .before .before .before .before .before .before .before .before .before .before .loop-test .taken, c .before .before .before .before .before .before .before .before .before .before .before .before .before .before .before .before .before .before .before .before .before .before .before .before .before .pre .0)
+add-k c = omega (arith, c .before .before .before .before .before .before .before .before .before .before .before .before .before .before .before .before .before .before .before .loop-test .taken, c .before .before .before .before .before .before .before .before .before .before .before .before .before .before .before .before .before .before .before .before .before .before .before .before .before .before .pre .0)
 
 loop-less : tie.Need-loop-less Inv-loop μ-loop
 loop-less c = omega arith
 
 loop-again : tie.Need-loop-again Inv-loop μ-loop
 loop-again c =
-    let s = c .before .before .before .before .before .before .before .before .before .before .before .before .before .before .before .before .before .before .before .before .before .before .before .before .before .args in
-    let l = c .before .before .before .before .before .before .before .before .before .before .before .before .before .before .before .before .before .before .before .loop in
-    let p = c .before .before .before .before .before .before .before .before .before .before .before .play-one .ensures in
-    let z : s .number + l .k + 1 ≡ s .number + (l .k + 1) = omega arith in (
+    let s = c .before .before .before .before .before .before .before .before .before .before .before .before .before .before .before .before .before .before .before .before .before .before .before .before .before .before .args in
+    let l = c .before .before .before .before .before .before .before .before .before .before .before .before .before .before .before .before .before .before .before .before .loop in
+    let p = c .before .before .before .before .before .before .before .before .before .before .before .before .before .play .ensures in
+    let z : s .number + (l .k + 1) ≡ s .number + l .k + 1 = omega arith in (
       omega arith,
-      omega (arith, p .1),
-      omega arith,
-      omega arith,
+      omega (arith, c .before .before .before .put-compared .ensures .1),
       omega arith,
       omega arith,
       omega arith,
-      turn _ _ _ _ _ _ _ _ (long (c .before .before .before .before .before .before .before .before .before .before .before .before .before .before .before .before .before .before .before .before .before .before .before .before .before)) (c .before .before .before .before .before .before .before .before .before .before .before .before .before .before .before .before .before .before .loop-test .taken) (rw z at (p .0)) (l .inv .7),
+      omega arith,
+      omega arith,
+      turn _ _ _ _ _ _ _ _ (long (c .before .before .before .before .before .before .before .before .before .before .before .before .before .before .before .before .before .before .before .before .before .before .before .before .before .before)) (c .before .before .before .before .before .before .before .before .before .before .before .before .before .before .before .before .before .before .before .loop-test .taken) (played-one _ _ _ _ _ _ _ _ _ _ _ _ _ z (p .0) (p .1) (c .before .before .before .put-compared .ensures .0)) (l .inv .7),
     )
 
-add-t33 : tie.Need-add-t33 Inv-loop μ-loop
-add-t33 c = omega arith
+add-t35 : tie.Need-add-t35 Inv-loop μ-loop
+add-t35 c = omega arith
 
 same-length : tie.Need-same-length Inv-loop μ-loop
 same-length c = omega arith
@@ -96,12 +102,14 @@ play-all-spec =
     loop-holds
     mul-rec
     array-copy-out-rec
-    add-play-one
-    play-one-requires
+    play-requires
+    add-put-compared
+    put-compared-requires
+    add-c
     add-k
     loop-less
     loop-again
-    add-t33
+    add-t35
     same-length
     same-length-2
     same-length-3

@@ -1,7 +1,7 @@
 use mathlib.Core.Path.{ap}
 use Rattle.law.specs.Deciding.{refuses, passed, decides-as}
 use Rattle.eeprom.specs.declared.Eeprom.{Eeprom}
-use Rattle.eeprom.proofs.ByNumbers.{frame-right, cycle-right, counter-right, chip-cong, decides-iff}
+use Rattle.eeprom.proofs.ByNumbers.{frame-right, cycle-right, counter-right, chip-cong}
 use borrow.Author.Needs.{needs}
 use Rattle.eeprom.proofs.same.Statement.{statement}
 use Rattle.eeprom.proofs.same.Tie as tie
@@ -56,7 +56,7 @@ returns-4 c =
     let frames = passed (frame-right _ _ (rw (c .before .before .before .before .before .before .before .before .before .before .before .before .before .before .before .before .frame-numbers .ensures, c .before .before .before .before .before .before .before .before .before .before .before .before .before .before .before .frame-numbers2 .ensures) at (c .before .before .before .before .before .before .before .before .before .before .before .before .before .before .same-numbers .ensures))) (c .before .before .before .before .before .before .before .before .before .before .before .before .before .if1 .left) in
     let cycles = passed (cycle-right _ _ (rw (c .before .before .before .before .before .before .before .before .before .before .before .before .cycle-numbers .ensures, c .before .before .before .before .before .before .before .before .before .before .before .cycle-numbers2 .ensures) at (c .before .before .before .before .before .before .before .before .before .before .same-numbers2 .ensures))) (c .before .before .before .before .before .before .before .before .before .if2 .left) in
     let counters = passed (counter-right _ _ (rw (c .before .before .before .before .before .before .before .before .counter-numbers .ensures, c .before .before .before .before .before .before .before .counter-numbers2 .ensures) at (c .before .before .before .before .before .before .same-numbers3 .ensures))) (c .before .before .before .before .before .if3 .left) in
-    decides-as (decides-iff _ (c .same .ensures)) (chip-cong _ _ frames cycles counters) (ap (λ (x : Eeprom). x .page))
+    decides-as (c .same .ensures) (chip-cong _ _ frames cycles counters) (ap (λ (x : Eeprom). x .page))
 
 pub same-spec : {M : Type 1} → statement M
 same-spec =

@@ -43,23 +43,20 @@ agree-requires-2 c κs = within (c .before .before .before .before .before .befo
 returns-5 : tie.Need-returns-5
 returns-5 c = differs _ _ _ (few (c .before .before .before .before .before .before)) E refl (settled (c .before .before .before .before .before .before .before .before .before .before .before .before .args .held) E _ _ (c .before .before .tied-eeprom .ensures) _ (c .before .agree2 .ensures)) (c .if5 .taken)
 
-last-requires : tie.Need-last-requires
-last-requires c κs = few (c .before .before .before .before .before .before)
-
-lost-requires : tie.Need-lost-requires
-lost-requires c κs = search needs
+lost-after-requires : tie.Need-lost-after-requires
+lost-after-requires c κs = few (c .before .before .before .before .before .before)
 
 returns-6 : tie.Need-returns-6
 returns-6 c =
-    is-lost _ _ _ (few (c .before .before .before .before .before .before .before .before .before)) (settled (c .before .before .before .before .before .before .before .before .before .before .before .before .before .before .before .args .held) F _ _ (c .before .before .before .before .before .before .before .before .tied-flash .ensures) _ (c .before .before .before .before .before .before .before .agree .ensures)) (c .before .before .before .before .before .before .if4 .left)
-    (settled (c .before .before .before .before .before .before .before .before .before .before .before .before .before .before .before .args .held) E _ _ (c .before .before .before .before .before .tied-eeprom .ensures) _ (c .before .before .before .before .agree2 .ensures)) (c .before .before .before .if5 .left)
-    _ _ (c .before .before .last .ensures) (c .before .lost .ensures) (c .if6 .taken)
+    is-lost _ _ _ (few (c .before .before .before .before .before .before .before .before)) (settled (c .before .before .before .before .before .before .before .before .before .before .before .before .before .before .args .held) F _ _ (c .before .before .before .before .before .before .before .tied-flash .ensures) _ (c .before .before .before .before .before .before .agree .ensures)) (c .before .before .before .before .before .if4 .left)
+    (settled (c .before .before .before .before .before .before .before .before .before .before .before .before .before .before .args .held) E _ _ (c .before .before .before .before .tied-eeprom .ensures) _ (c .before .before .before .agree2 .ensures)) (c .before .before .if5 .left)
+    _ (c .before .lost-after .ensures) (c .if6 .taken)
 
 returns-7 : tie.Need-returns-7
 returns-7 c =
-    is-kept _ _ _ (few (c .before .before .before .before .before .before .before .before .before)) (settled (c .before .before .before .before .before .before .before .before .before .before .before .before .before .before .before .args .held) F _ _ (c .before .before .before .before .before .before .before .before .tied-flash .ensures) _ (c .before .before .before .before .before .before .before .agree .ensures)) (c .before .before .before .before .before .before .if4 .left)
-    (settled (c .before .before .before .before .before .before .before .before .before .before .before .before .before .before .before .args .held) E _ _ (c .before .before .before .before .before .tied-eeprom .ensures) _ (c .before .before .before .before .agree2 .ensures)) (c .before .before .before .if5 .left)
-    _ _ (c .before .before .last .ensures) (c .before .lost .ensures) (c .if6 .left)
+    is-kept _ _ _ (few (c .before .before .before .before .before .before .before .before)) (settled (c .before .before .before .before .before .before .before .before .before .before .before .before .before .before .args .held) F _ _ (c .before .before .before .before .before .before .before .tied-flash .ensures) _ (c .before .before .before .before .before .before .agree .ensures)) (c .before .before .before .before .before .if4 .left)
+    (settled (c .before .before .before .before .before .before .before .before .before .before .before .before .before .before .args .held) E _ _ (c .before .before .before .before .tied-eeprom .ensures) _ (c .before .before .before .agree2 .ensures)) (c .before .before .if5 .left)
+    _ (c .before .lost-after .ensures) (c .if6 .left)
 
 pub judge-spec : {M : Type 1} → statement M
 judge-spec =
@@ -74,7 +71,6 @@ judge-spec =
     tied-eeprom-requires
     agree-requires-2
     returns-5
-    last-requires
-    lost-requires
+    lost-after-requires
     returns-6
     returns-7)

@@ -9,6 +9,7 @@ mod script;
 mod ties;
 
 use crate::model::call::Call;
+pub use script::Start;
 
 /// A call, what it must answer, and all buffers as they must be afterwards.
 pub struct Fixed {

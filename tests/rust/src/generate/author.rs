@@ -2,8 +2,8 @@
 //! recorded replies are mostly right.
 
 use super::dumps::Dumps;
-use super::eeprom_frames;
-use super::flash_frames::{self, Places};
+use super::eeprom_frames::{self, EepromFrames};
+use super::flash_frames::{self, FlashFrames, Places};
 use super::random::Random;
 use crate::model::eeprom;
 use crate::model::flash;
@@ -39,6 +39,8 @@ pub struct Author<'a> {
     pub text: Vec<u8>,
     style: Style,
     places: Places,
+    flash_frames: FlashFrames,
+    eeprom_frames: EepromFrames,
     stamp: u64,
     at_stamp: AtStamp,
     flash_next: VecDeque<FlashEvent>,
@@ -84,11 +86,19 @@ impl<'a> Author<'a> {
             text: text.into_bytes(),
             style,
             places,
+            flash_frames: flash_frames::next_frame,
+            eeprom_frames: eeprom_frames::next_frame,
             stamp: first,
             at_stamp: AtStamp::default(),
             flash_next: VecDeque::new(),
             eeprom_next: VecDeque::new(),
         }
+    }
+
+    /// Other frames than the usual mixture.
+    pub fn send(&mut self, flash: FlashFrames, eeprom: EepromFrames) {
+        self.flash_frames = flash;
+        self.eeprom_frames = eeprom;
     }
 
     /// One more record, of any channel, tied or not as the style has it.
@@ -170,13 +180,14 @@ impl<'a> Author<'a> {
         order
     }
 
-    pub fn take(&mut self, channel: Channel) {
+    /// The channel's next event, as it was recorded.
+    pub fn take(&mut self, channel: Channel) -> Event {
         let event = match channel {
             Channel::F => Event::F(self.next_flash()),
             Channel::E => Event::E(self.next_eeprom()),
             Channel::L => Event::L(self.next_line()),
         };
-        self.add(event);
+        self.add(event)
     }
 
     pub fn next_flash(&mut self) -> FlashEvent {
@@ -184,7 +195,7 @@ impl<'a> Author<'a> {
             if let Some(event) = self.flash_next.pop_front() {
                 return event;
             }
-            self.flash_next.extend(flash_frames::next_frame(self.random, &self.board.flash, &self.places));
+            self.flash_next.extend((self.flash_frames)(self.random, &self.board.flash, &self.places));
         }
     }
 
@@ -193,7 +204,7 @@ impl<'a> Author<'a> {
             if let Some(event) = self.eeprom_next.pop_front() {
                 return event;
             }
-            self.eeprom_next.extend(eeprom_frames::next_frame(self.random, &self.board.eeprom, &self.places));
+            self.eeprom_next.extend((self.eeprom_frames)(self.random, &self.board.eeprom, &self.places));
         }
     }
 
@@ -212,7 +223,7 @@ impl<'a> Author<'a> {
     }
 
     /// Plays the event on the board that goes along and writes its line with a recorded reply.
-    pub fn add(&mut self, event: Event) {
+    pub fn add(&mut self, event: Event) -> Event {
         let recorded = match event {
             Event::F(event) => Event::F(self.recorded_flash(event)),
             Event::E(event) => Event::E(self.recorded_eeprom(event)),
@@ -227,6 +238,7 @@ impl<'a> Author<'a> {
             Event::L(_) => self.at_stamp.lines += 1,
         }
         self.text.extend(line_of(self.stamp, recorded).into_bytes());
+        recorded
     }
 
     fn recorded_flash(&mut self, event: FlashEvent) -> FlashEvent {

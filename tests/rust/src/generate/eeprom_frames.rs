@@ -46,6 +46,9 @@ const READY: [(usize, Kind); 11] = [
     (1, Kind::Poll),
 ];
 
+/// Makes the events that go over the bus next, by the chip's state.
+pub type EepromFrames = fn(&mut Random, &Eeprom, &Places) -> Vec<EepromEvent>;
+
 pub fn next_frame(random: &mut Random, eeprom: &Eeprom, places: &Places) -> Vec<EepromEvent> {
     let kind = if eeprom.cycle.is_some() { random.weighted(&IN_CYCLE) } else { random.weighted(&READY) };
     let own = 0xa0 | eeprom.wired << 1;
@@ -65,7 +68,7 @@ pub fn next_frame(random: &mut Random, eeprom: &Eeprom, places: &Places) -> Vec<
     }
 }
 
-fn sent(byte: u8) -> EepromEvent {
+pub fn sent(byte: u8) -> EepromEvent {
     EepromEvent::B { byte, not_acknowledged: false }
 }
 
@@ -82,7 +85,7 @@ fn address_bytes(random: &mut Random, places: &Places) -> [u8; 2] {
     [(place >> 8) as u8 | ignored, place as u8]
 }
 
-fn opened_write(random: &mut Random, own: u8, places: &Places) -> Vec<EepromEvent> {
+pub fn opened_write(random: &mut Random, own: u8, places: &Places) -> Vec<EepromEvent> {
     let mut frame = vec![EepromEvent::Sta, sent(own)];
     frame.extend(address_bytes(random, places).map(sent));
     frame

@@ -70,6 +70,9 @@ pub struct Places {
     pub long_pages: bool,
 }
 
+/// Makes the events that go over the bus next, by the chip's state.
+pub type FlashFrames = fn(&mut Random, &Flash, &Places) -> Vec<FlashEvent>;
+
 pub fn next_frame(random: &mut Random, flash: &Flash, places: &Places) -> Vec<FlashEvent> {
     let kind = if flash.cycle.is_some() {
         random.weighted(&IN_CYCLE)
@@ -90,7 +93,7 @@ pub fn next_frame(random: &mut Random, flash: &Flash, places: &Places) -> Vec<Fl
     }
 }
 
-fn frame_of(sent: &[u8]) -> Vec<FlashEvent> {
+pub fn frame_of(sent: &[u8]) -> Vec<FlashEvent> {
     let mut frame = vec![FlashEvent::Sel];
     frame.extend(sent.iter().map(|&si| FlashEvent::X { si, so: 0 }));
     frame.push(FlashEvent::Des);
@@ -162,7 +165,7 @@ pub fn data_length(random: &mut Random, long_pages: bool, page: usize) -> usize 
     }
 }
 
-fn address_bytes(random: &mut Random, places: &Places) -> [u8; 3] {
+pub fn address_bytes(random: &mut Random, places: &Places) -> [u8; 3] {
     let first = (usize::from(places.watched) - 1) * 0x8000;
     let near = random.below(6);
     let address = match random.below(10) {

@@ -10,3 +10,4 @@ pub mod prepared;
 pub mod random;
 pub mod reorder;
 pub mod samples;
+pub mod topics;

@@ -3,8 +3,8 @@
 use super::call::Call;
 use super::kept::{rolled, Kept};
 use super::listing::{listing, Files};
-use super::record::Record;
-use super::replay::{replay, stamps};
+use super::record::{Event, Record};
+use super::replay::{replay, stamps, Ending};
 use super::stamp::Orders;
 use super::text::{read, Refusal, TEXT_MOST};
 use crate::fixed;
@@ -130,16 +130,97 @@ fn refused_texts_leave_all_but_the_result() {
     }
 }
 
-#[test]
-fn samples_settle_and_are_long() {
-    for text in [samples::untied(1), samples::tied(1)] {
-        let trace = read(&text).unwrap();
-        let ending = replay(&trace, Kept::doubtful(), Kept::doubtful(), Orders::EachBusWithLines);
-        assert_eq!((ending.answer, ending.count()), (0, 0));
-        assert!(text.len() <= TEXT_MOST && text.len() + 20 > TEXT_MOST, "{}", text.len());
+fn replayed(text: &[u8]) -> Ending {
+    replay(&read(text).unwrap(), Kept::doubtful(), Kept::doubtful(), Orders::EachBusWithLines)
+}
+
+fn channel(record: &Record) -> u8 {
+    match record.event {
+        Event::F(_) => 0,
+        Event::E(_) => 1,
+        Event::L(_) => 2,
     }
-    let tied = read(&samples::tied(2)).unwrap();
-    assert!(stamps(&tied.records).iter().all(|records: &&[Record]| records.len() == 18));
+}
+
+fn is_tied(records: &&[Record]) -> bool {
+    records.iter().any(|record| channel(record) != channel(&records[0]))
+}
+
+#[test]
+fn measured_traces_are_what_their_group_says() {
+    assert_eq!(samples::ALL.iter().filter(|sample| sample.tied).count(), 8);
+    for sample in &samples::ALL {
+        let trace = read(&sample.text()).unwrap();
+        let stamps = stamps(&trace.records);
+        let tied = stamps.iter().filter(|&records| is_tied(records)).count();
+        if sample.tied {
+            assert_eq!(tied, stamps.len(), "{}", sample.name);
+        } else {
+            assert!(tied * 20 < stamps.len(), "{}", sample.name);
+        }
+    }
+}
+
+#[test]
+fn measured_traces_settle_but_one() {
+    for sample in &samples::ALL {
+        let text = sample.text();
+        let ending = replayed(&text);
+        let due = if sample.name == "stop-late" { (7, read(&text).unwrap().records.last().unwrap().stamp) } else { (0, 0) };
+        assert_eq!((ending.answer, ending.stamp, ending.count()), (due.0, due.1, 0), "{}", sample.name);
+        let short = sample.name.starts_with("short");
+        assert!(text.len() <= TEXT_MOST && (text.len() + 400 > TEXT_MOST) == !short, "{}: {}", sample.name, text.len());
+    }
+}
+
+#[test]
+fn the_fully_tied_trace_is_full() {
+    let full = read(&samples::ALL[0].text()).unwrap();
+    assert!(stamps(&full.records).iter().all(|records| records.len() == 18));
+    for (sample, count) in samples::GROWTH[3..].iter().zip(1..) {
+        let trace = read(&sample.text()).unwrap();
+        assert!(stamps(&trace.records).iter().all(|records| records.len() == 2 * count + 2), "{}", sample.name);
+    }
+}
+
+/// The figures in docs/SPEED.md are of these very traces: a generator that makes others has to say so here.
+const KEPT_TRACES: [(&str, u64); 16] = [
+    ("full-tied", 0x122b_674b_7e86_3178),
+    ("few-tied", 0xf63d_006a_0059_a57b),
+    ("many-no-lines", 0x7ef9_1814_dab0_6fcf),
+    ("program-tied", 0xdb7a_2133_0598_36f9),
+    ("erase-tied", 0x87ef_dada_98ab_a38e),
+    ("wrsr-tied", 0xe0b2_7d61_c6e9_f2cb),
+    ("eeprom-tied", 0x6331_3a66_b82d_a900),
+    ("stop-late", 0x3615_7b26_edbb_50cf),
+    ("long-untied", 0x84c7_8c6e_4074_5c1f),
+    ("reads", 0x7840_4f47_3186_931f),
+    ("programs", 0xa914_123e_9dc4_b39d),
+    ("polling", 0x318a_6b76_26d8_c940),
+    ("eeprom-only", 0xb915_9112_e922_03c4),
+    ("nearly-untied", 0x5c39_5cac_b3b4_de2b),
+    ("short", 0xce8f_ea2a_0263_8d98),
+    ("shortest", 0x2072_ff13_bf65_a0bd),
+];
+
+/// FNV-1a.
+fn sum(text: &[u8]) -> u64 {
+    text.iter().fold(0xcbf2_9ce4_8422_2325, |sum, &byte| (sum ^ u64::from(byte)).wrapping_mul(0x100_0000_01b3))
+}
+
+#[test]
+fn measured_traces_stay() {
+    for (sample, kept) in samples::ALL.iter().zip(KEPT_TRACES) {
+        assert_eq!((sample.name, sum(&sample.text())), kept);
+    }
+}
+
+#[test]
+fn lengths_grow_as_named() {
+    let lengths: Vec<usize> = samples::GROWTH[..3].iter().map(|sample| sample.text().len()).collect();
+    for (length, part) in lengths.iter().zip([4, 2, 1]) {
+        assert!(*length <= TEXT_MOST / part && length + 20 > TEXT_MOST / part, "{:?}", lengths);
+    }
 }
 
 #[test]

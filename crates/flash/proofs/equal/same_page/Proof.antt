@@ -1,5 +1,3 @@
-use mathlib.Core.Path.{sym, _∙_}
-use Rattle.law.specs.Choice.{true-not-false}
 use borrow.Author.Needs.{needs}
 use Rattle.flash.proofs.equal.same_page.Statement.{statement}
 use Rattle.flash.proofs.equal.same_page.Tie as tie
@@ -14,7 +12,7 @@ same-requires : tie.Need-same-requires
 same-requires c κs = search needs
 
 returns : tie.Need-returns
-returns c = record { holds = c .same .ensures .0; fails = λ e p. true-not-false (sym (c .same .ensures .1 p) ∙ e) }
+returns c = c .same .ensures
 
 pub same-page-spec : {M : Type 1} → statement M
 same-page-spec =

@@ -1,0 +1,2 @@
+-- The loop over two pages.
+pub mod Alike

@@ -1,0 +1,660 @@
+/*
+ * The replay as one plain pass in C, a yardstick for traces without ties: each line is read once, checked, and played
+ * in the order written directly on the lent images, and its reply is put down at once. It holds no stamp together and
+ * tries no order, so it can't say 6 or 7: tied records are played as they stand, which is right wherever every order
+ * agrees. It undoes nothing: at a bad line it answers 3, 4 or 5 with images and replies as far as they got. It is
+ * given readable traces only.
+ */
+#include "replays.h"
+
+#include <string.h>
+
+#include "hazelcrook.h"
+
+enum { FLASH_PAGE = 256, EEPROM_PAGE = 64, ADDRESSES = 0x20000, PLACES = 0x8000 };
+
+/* The flash's status. */
+enum { WPEN = 0x80, BP1 = 0x08, BP0 = 0x04, WRITE_ENABLE = 0x02, WRITTEN = WPEN | BP1 | BP0 };
+
+/* Op-codes, their don't-care bit 0. No instruction has 00: it is none, and no cycle. */
+enum {
+    NONE = 0x00,
+    WRSR = 0x01,
+    PROGRAM = 0x02,
+    READ = 0x03,
+    WRDI = 0x04,
+    RDSR = 0x05,
+    WREN = 0x06,
+    RDID = 0x15,
+    SECTOR_ERASE = 0x52,
+    CHIP_ERASE = 0x62,
+    DONT_CARE = 0x08
+};
+
+enum event { F_SEL, F_X, F_CUT, F_DES, F_END, E_STA, E_B, E_CUT, E_STO, E_END, L_ON, L_OFF, L_LOCK, L_FREE, UNKNOWN };
+
+struct record {
+    uint32_t stamp;
+    enum event event;
+    uint8_t first, second; /* SI and SO, or the byte and its acknowledge bit */
+};
+
+enum flash_frame { F_IDLE, F_VOID, F_SELECTED, F_OPEN };
+
+/* The page is that of a PROGRAM's frame, then of its cycle: no other PROGRAM is taken up in between. */
+struct flash {
+    uint8_t *values, *masks;
+    uint32_t watched;
+    uint8_t status;
+    enum flash_frame frame;
+    int lock_off; /* WPEN was 1 and no cycle ran at `sel`, and the lock was off since */
+    uint8_t op_code;
+    uint32_t sent, address;
+    uint8_t byte;             /* WRSR's */
+    uint8_t page[FLASH_PAGE]; /* ff, which programs nothing, where none was sent */
+    uint8_t cycle;            /* the op-code that started it */
+    uint32_t cycle_address;
+};
+
+enum eeprom_frame { E_IDLE, E_VOID, E_STARTED, E_WRITING, E_READING };
+
+/* The page is that of a write frame, then of its cycle: a frame begun in a cycle writes nothing. */
+struct eeprom {
+    uint8_t *values, *masks;
+    uint8_t own; /* the address byte of a write */
+    enum eeprom_frame frame;
+    int sta_in_cycle;
+    uint32_t sent, next;
+    uint8_t page[EEPROM_PAGE];
+    uint64_t places; /* a bit for each place of the page that was sent */
+    int in_cycle;
+    int has_counter;
+    uint32_t counter;
+};
+
+struct board {
+    struct flash flash;
+    struct eeprom eeprom;
+    int supply, lock;
+};
+
+/* What each bus has open, for refusal 5. */
+struct buses {
+    int selected, flash_cut, started, eeprom_cut;
+};
+
+/* What is left of the text. */
+struct text {
+    const uint8_t *at, *end;
+};
+
+/* Reading. */
+
+static int take_byte(struct text *text, char byte)
+{
+    if (text->at == text->end || *text->at != (uint8_t)byte)
+        return 0;
+    text->at++;
+    return 1;
+}
+
+static int take_word(struct text *text, const char *word)
+{
+    size_t len = strlen(word);
+
+    if ((size_t)(text->end - text->at) < len || memcmp(text->at, word, len) != 0)
+        return 0;
+    text->at += len;
+    return 1;
+}
+
+static int hex_digit(uint8_t byte)
+{
+    if (byte >= '0' && byte <= '9')
+        return byte - '0';
+    if (byte >= 'a' && byte <= 'f')
+        return byte - 'a' + 10;
+    return -1;
+}
+
+static int take_hex(struct text *text, uint8_t *value)
+{
+    int high, low;
+
+    if (text->end - text->at < 2)
+        return 0;
+    high = hex_digit(text->at[0]);
+    low = hex_digit(text->at[1]);
+    if (high < 0 || low < 0)
+        return 0;
+    *value = (uint8_t)(high << 4 | low);
+    text->at += 2;
+    return 1;
+}
+
+static int take_digit(struct text *text, uint8_t least, uint8_t most, uint8_t *value)
+{
+    if (text->at == text->end || *text->at < '0' + least || *text->at > '0' + most)
+        return 0;
+    *value = (uint8_t)(*text->at++ - '0');
+    return 1;
+}
+
+static int take_stamp(struct text *text, uint32_t *stamp)
+{
+    const uint8_t *first = text->at;
+    uint64_t value = 0;
+
+    while (text->at < text->end && *text->at >= '0' && *text->at <= '9' && value <= UINT32_MAX)
+        value = value * 10 + (uint64_t)(*text->at++ - '0');
+    if (text->at == first || (*first == '0' && text->at != first + 1) || value > UINT32_MAX)
+        return 0;
+    *stamp = (uint32_t)value;
+    return 1;
+}
+
+static int take_board(struct text *text, struct board *board)
+{
+    uint8_t status, watched, address;
+
+    if (!take_word(text, "board\t") || !take_hex(text, &status) || !take_byte(text, '\t') ||
+        !take_digit(text, 1, 4, &watched) || !take_byte(text, '\t') || !take_digit(text, 0, 7, &address) ||
+        !take_byte(text, '\n') || (status & ~WRITTEN) != 0)
+        return 0;
+    board->flash.status = status;
+    board->flash.watched = watched;
+    board->eeprom.own = (uint8_t)(0xa0 | address << 1);
+    return 1;
+}
+
+static enum event flash_event(struct text *text, struct record *record)
+{
+    if (take_word(text, "x\t")) {
+        int whole = take_hex(text, &record->first) && take_byte(text, '\t') && take_hex(text, &record->second);
+
+        return whole ? F_X : UNKNOWN;
+    }
+    if (take_word(text, "sel"))
+        return F_SEL;
+    if (take_word(text, "des"))
+        return F_DES;
+    if (take_word(text, "end"))
+        return F_END;
+    return take_word(text, "cut") ? F_CUT : UNKNOWN;
+}
+
+static enum event eeprom_event(struct text *text, struct record *record)
+{
+    if (take_word(text, "b\t")) {
+        int whole = take_hex(text, &record->first) && take_byte(text, '\t') && take_digit(text, 0, 1, &record->second);
+
+        return whole ? E_B : UNKNOWN;
+    }
+    if (take_word(text, "sta"))
+        return E_STA;
+    if (take_word(text, "sto"))
+        return E_STO;
+    if (take_word(text, "end"))
+        return E_END;
+    return take_word(text, "cut") ? E_CUT : UNKNOWN;
+}
+
+static enum event line_event(struct text *text)
+{
+    if (take_word(text, "on"))
+        return L_ON;
+    if (take_word(text, "off"))
+        return L_OFF;
+    if (take_word(text, "lock"))
+        return L_LOCK;
+    return take_word(text, "free") ? L_FREE : UNKNOWN;
+}
+
+static int take_record(struct text *text, struct record *record)
+{
+    if (!take_stamp(text, &record->stamp) || !take_byte(text, '\t'))
+        return 0;
+    if (take_word(text, "F\t"))
+        record->event = flash_event(text, record);
+    else if (take_word(text, "E\t"))
+        record->event = eeprom_event(text, record);
+    else if (take_word(text, "L\t"))
+        record->event = line_event(text);
+    else
+        return 0;
+    return record->event != UNKNOWN && take_byte(text, '\n');
+}
+
+/* Whether the record can be; what it leaves open is taken down. */
+static int allowed(struct buses *buses, enum event event)
+{
+    struct buses before = *buses;
+
+    switch (event) {
+    case F_SEL: buses->selected = 1; return !before.selected;
+    case F_X: return before.selected && !before.flash_cut;
+    case F_CUT: buses->flash_cut = 1; return before.selected && !before.flash_cut;
+    case F_DES: buses->selected = buses->flash_cut = 0; return before.selected;
+    case E_STA: buses->started = 1; buses->eeprom_cut = 0; return 1;
+    case E_B: return before.started && !before.eeprom_cut;
+    case E_CUT: buses->eeprom_cut = 1; return before.started && !before.eeprom_cut;
+    case E_STO: buses->started = buses->eeprom_cut = 0; return before.started;
+    default: return 1;
+    }
+}
+
+/* Replies: kind, value, mask, match. */
+
+static void put(uint8_t *reply, uint8_t kind, uint8_t value, uint8_t mask, uint8_t match)
+{
+    reply[0] = kind;
+    reply[1] = value;
+    reply[2] = mask;
+    reply[3] = match;
+}
+
+static uint8_t agreement(int agrees)
+{
+    return agrees ? 1 : 2;
+}
+
+static void put_kind(uint8_t *reply, uint8_t kind)
+{
+    put(reply, kind, 0, 0, 0);
+}
+
+static void put_byte(uint8_t *reply, uint8_t value, uint8_t mask, uint8_t recorded)
+{
+    uint8_t match = mask == 0xff ? 0 : agreement(((recorded ^ value) & ~mask) == 0);
+
+    put(reply, HAZELCROOK_BYTE, value, mask, match);
+}
+
+/* The flash. */
+
+static uint32_t sector_of(uint32_t address)
+{
+    return address / HAZELCROOK_IMAGE + 1;
+}
+
+static int locks_out(const struct flash *flash, uint32_t sector)
+{
+    switch (flash->status & (BP1 | BP0)) {
+    case 0: return 0;
+    case BP0: return sector == 4;
+    case BP1: return sector >= 3;
+    default: return 1;
+    }
+}
+
+static void select_flash(struct flash *flash, int supply, int lock)
+{
+    flash->frame = supply ? F_SELECTED : F_VOID;
+    flash->lock_off = (flash->status & WPEN) != 0 && flash->cycle == NONE && !lock;
+}
+
+static void open_flash(struct flash *flash, uint8_t op_code)
+{
+    op_code &= (uint8_t)~DONT_CARE;
+    switch (op_code) {
+    case RDSR: break;
+    case WRSR: case PROGRAM: case READ: case WRDI: case WREN: case RDID: case SECTOR_ERASE: case CHIP_ERASE:
+        if (flash->cycle == NONE)
+            break;
+        /* fallthrough */
+    default: flash->frame = F_VOID; return;
+    }
+    flash->frame = F_OPEN;
+    flash->op_code = op_code;
+    flash->sent = 1;
+    flash->address = 0;
+    if (op_code == PROGRAM)
+        memset(flash->page, 0xff, sizeof flash->page);
+}
+
+static void read_flash(const struct flash *flash, uint8_t recorded, uint8_t *reply)
+{
+    uint32_t address = (flash->address + flash->sent - 5) % ADDRESSES;
+    uint32_t place = address % HAZELCROOK_IMAGE;
+
+    if (sector_of(address) == flash->watched)
+        put_byte(reply, flash->values[place], flash->masks[place], recorded);
+}
+
+static void exchange(struct flash *flash, const struct record *record, uint8_t *reply)
+{
+    uint8_t si = record->first, so = record->second;
+
+    if (flash->frame == F_SELECTED) {
+        open_flash(flash, si);
+        return;
+    }
+    if (flash->frame != F_OPEN)
+        return;
+    flash->sent++;
+    switch (flash->op_code) {
+    case RDSR: put_byte(reply, flash->cycle != NONE ? 0xff : flash->status, 0, so); break;
+    case RDID:
+        if (flash->sent <= 3)
+            put_byte(reply, flash->sent == 2 ? 0x1f : 0x60, 0, so);
+        break;
+    case WRSR: flash->byte = si; break;
+    case READ: case PROGRAM: case SECTOR_ERASE:
+        if (flash->sent <= 4)
+            flash->address = (flash->address << 8 | si) % ADDRESSES;
+        else if (flash->op_code == PROGRAM)
+            flash->page[(flash->address + flash->sent - 5) % FLASH_PAGE] = si;
+        else if (flash->op_code == READ)
+            read_flash(flash, so, reply);
+        break;
+    default: break;
+    }
+}
+
+/* Whether the frame's instruction may start its cycle. */
+static int may_start(const struct flash *flash)
+{
+    if ((flash->status & WRITE_ENABLE) == 0)
+        return 0;
+    switch (flash->op_code) {
+    case WRSR: return flash->sent == 2 && ((flash->status & WPEN) == 0 || flash->lock_off);
+    case CHIP_ERASE: return flash->sent == 1 && !locks_out(flash, 1);
+    case SECTOR_ERASE: return flash->sent == 4 && !locks_out(flash, sector_of(flash->address));
+    case PROGRAM: return flash->sent >= 5 && !locks_out(flash, sector_of(flash->address));
+    default: return 0;
+    }
+}
+
+static void deselect(struct flash *flash, uint8_t *reply)
+{
+    if (flash->frame == F_OPEN) {
+        if (flash->op_code == WREN && flash->sent == 1)
+            flash->status |= WRITE_ENABLE;
+        else if (flash->op_code == WRDI && flash->sent == 1)
+            flash->status &= (uint8_t)~WRITE_ENABLE;
+        else if (may_start(flash)) {
+            flash->cycle = flash->op_code;
+            flash->cycle_address = flash->address;
+            put_kind(reply, HAZELCROOK_STARTS);
+        }
+    }
+    flash->frame = F_IDLE;
+}
+
+/* The page's data on the image: by a whole PROGRAM, or by one that was cut. */
+static void program(struct flash *flash, int cut)
+{
+    uint32_t first = flash->cycle_address % HAZELCROOK_IMAGE / FLASH_PAGE * FLASH_PAGE;
+    uint8_t *values = flash->values + first;
+    uint8_t *masks = flash->masks + first;
+    int place;
+
+    if (sector_of(flash->cycle_address) != flash->watched)
+        return;
+    for (place = 0; place < FLASH_PAGE; place++) {
+        masks[place] = cut ? masks[place] | (values[place] & ~flash->page[place]) : masks[place] & flash->page[place];
+        values[place] &= flash->page[place];
+    }
+}
+
+static void erase(struct flash *flash, uint8_t value, uint8_t mask)
+{
+    int reached = flash->cycle == CHIP_ERASE ? !locks_out(flash, flash->watched)
+                                             : sector_of(flash->cycle_address) == flash->watched;
+
+    if (reached) {
+        memset(flash->values, value, HAZELCROOK_IMAGE);
+        memset(flash->masks, mask, HAZELCROOK_IMAGE);
+    }
+}
+
+static void end_flash(struct flash *flash, uint8_t *reply)
+{
+    switch (flash->cycle) {
+    case NONE: put_kind(reply, HAZELCROOK_NO_CYCLE); return;
+    case PROGRAM: program(flash, 0); break;
+    case WRSR: flash->status = flash->byte & WRITTEN; break;
+    default: erase(flash, 0xff, 0x00); break;
+    }
+    flash->cycle = NONE;
+    flash->status &= (uint8_t)~WRITE_ENABLE;
+    put_kind(reply, HAZELCROOK_ENDS);
+}
+
+/* The supply falls, no WRSR's cycle running. */
+static void lose_flash(struct flash *flash)
+{
+    if (flash->cycle == PROGRAM)
+        program(flash, 1);
+    else if (flash->cycle != NONE)
+        erase(flash, 0x00, 0xff);
+    flash->cycle = NONE;
+    flash->status &= (uint8_t)~WRITE_ENABLE;
+    if (flash->frame != F_IDLE)
+        flash->frame = F_VOID;
+}
+
+/* The EEPROM. */
+
+static void start_frame(struct eeprom *eeprom, int supply)
+{
+    eeprom->frame = supply ? E_STARTED : E_VOID;
+    eeprom->sta_in_cycle = eeprom->in_cycle;
+}
+
+static void put_ack(uint8_t *reply, uint8_t kind, int agrees)
+{
+    put(reply, kind, 0, 0, agreement(agrees));
+}
+
+static void address_eeprom(struct eeprom *eeprom, const struct record *record, uint8_t *reply)
+{
+    eeprom->frame = E_VOID;
+    if ((record->first & 0xfe) != eeprom->own)
+        return;
+    if (eeprom->sta_in_cycle) {
+        put_ack(reply, HAZELCROOK_NO_ACK, record->second == 1);
+        return;
+    }
+    put_ack(reply, HAZELCROOK_ACK, record->second == 0);
+    eeprom->frame = record->first & 1 ? E_READING : E_WRITING;
+    eeprom->sent = 0;
+    if (eeprom->frame == E_WRITING)
+        eeprom->places = 0;
+}
+
+static void write_byte(struct eeprom *eeprom, const struct record *record, uint8_t *reply)
+{
+    uint32_t place = eeprom->next % EEPROM_PAGE;
+
+    put_ack(reply, HAZELCROOK_ACK, record->second == 0);
+    eeprom->sent++;
+    if (eeprom->sent == 1) {
+        eeprom->next = record->first;
+        return;
+    }
+    if (eeprom->sent == 2)
+        eeprom->next = (eeprom->next << 8 | record->first) % PLACES;
+    else {
+        eeprom->page[place] = record->first;
+        eeprom->places |= (uint64_t)1 << place;
+        eeprom->next = eeprom->next - place + (place + 1) % EEPROM_PAGE;
+    }
+    eeprom->counter = eeprom->next;
+    eeprom->has_counter = 1;
+}
+
+static void read_byte(struct eeprom *eeprom, const struct record *record, uint8_t *reply)
+{
+    if (eeprom->has_counter) {
+        put_byte(reply, eeprom->values[eeprom->counter], eeprom->masks[eeprom->counter], record->first);
+        eeprom->counter = (eeprom->counter + 1) % PLACES;
+    }
+    if (record->second == 1)
+        eeprom->frame = E_VOID;
+}
+
+static void take_eeprom_byte(struct eeprom *eeprom, const struct record *record, uint8_t *reply)
+{
+    switch (eeprom->frame) {
+    case E_STARTED: address_eeprom(eeprom, record, reply); break;
+    case E_WRITING: write_byte(eeprom, record, reply); break;
+    case E_READING: read_byte(eeprom, record, reply); break;
+    default: break;
+    }
+}
+
+static void stop_frame(struct eeprom *eeprom, int lock, uint8_t *reply)
+{
+    if (eeprom->frame == E_WRITING && eeprom->sent > 2 && !lock) {
+        eeprom->in_cycle = 1;
+        put_kind(reply, HAZELCROOK_STARTS);
+    }
+    eeprom->frame = E_IDLE;
+}
+
+static void store(struct eeprom *eeprom, int cut)
+{
+    uint32_t first = eeprom->next / EEPROM_PAGE * EEPROM_PAGE;
+    uint32_t place;
+
+    for (place = 0; place < EEPROM_PAGE; place++)
+        if (eeprom->places >> place & 1) {
+            eeprom->values[first + place] = cut ? 0x00 : eeprom->page[place];
+            eeprom->masks[first + place] = cut ? 0xff : 0x00;
+        }
+    eeprom->in_cycle = 0;
+}
+
+static void end_eeprom(struct eeprom *eeprom, uint8_t *reply)
+{
+    if (eeprom->in_cycle) {
+        store(eeprom, 0);
+        put_kind(reply, HAZELCROOK_ENDS);
+    } else
+        put_kind(reply, HAZELCROOK_NO_CYCLE);
+}
+
+static void lose_eeprom(struct eeprom *eeprom)
+{
+    if (eeprom->in_cycle)
+        store(eeprom, 1);
+    eeprom->has_counter = 0;
+    if (eeprom->frame != E_IDLE)
+        eeprom->frame = E_VOID;
+}
+
+/* The lines; the supply's fall. */
+static void lose_supply(struct board *board)
+{
+    if (board->supply) {
+        lose_flash(&board->flash);
+        lose_eeprom(&board->eeprom);
+        board->supply = 0;
+    }
+}
+
+static void play(struct board *board, const struct record *record, uint8_t *reply)
+{
+    put_kind(reply, HAZELCROOK_SILENT);
+    switch (record->event) {
+    case F_SEL: select_flash(&board->flash, board->supply, board->lock); break;
+    case F_X: exchange(&board->flash, record, reply); break;
+    case F_CUT: board->flash.frame = F_VOID; break;
+    case F_DES: deselect(&board->flash, reply); break;
+    case F_END: end_flash(&board->flash, reply); break;
+    case E_STA: start_frame(&board->eeprom, board->supply); break;
+    case E_B: take_eeprom_byte(&board->eeprom, record, reply); break;
+    case E_CUT: board->eeprom.frame = E_VOID; break;
+    case E_STO: stop_frame(&board->eeprom, board->lock, reply); break;
+    case E_END: end_eeprom(&board->eeprom, reply); break;
+    case L_ON: board->supply = 1; break;
+    case L_OFF: lose_supply(board); break;
+    case L_LOCK: board->lock = 1; board->flash.lock_off = 0; break;
+    case L_FREE: board->lock = 0; break;
+    case UNKNOWN: break;
+    }
+}
+
+/* The call. */
+
+static int any_bit_in_both(const uint8_t *values, const uint8_t *masks)
+{
+    uint8_t both = 0;
+    size_t place;
+
+    for (place = 0; place < HAZELCROOK_IMAGE; place++)
+        both |= values[place] & masks[place];
+    return both != 0;
+}
+
+static uint32_t put_result(uint8_t *result, uint32_t answer, uint32_t place, uint32_t count)
+{
+    int byte;
+
+    for (byte = 0; byte < 4; byte++) {
+        result[byte] = (uint8_t)(answer >> 8 * byte);
+        result[4 + byte] = (uint8_t)(place >> 8 * byte);
+        result[8 + byte] = (uint8_t)(count >> 8 * byte);
+    }
+    return answer;
+}
+
+/* All replies from `reply` on are 0. */
+static void clear_rest(uint8_t *replies, uint8_t *reply)
+{
+    memset(reply, 0, (size_t)(replies + HAZELCROOK_REPLIES - reply));
+}
+
+/* All records of the text. */
+static uint32_t pass(struct text *text, struct board *board, uint8_t *replies, uint8_t *result)
+{
+    struct buses buses = {0, 0, 0, 0};
+    struct record record;
+    uint32_t before = 0, count = 0, line = 2;
+    uint8_t *reply = replies;
+
+    for (; text->at < text->end; line++, reply += 4) {
+        if (!take_record(text, &record))
+            return put_result(result, HAZELCROOK_BAD_LINE, line, 0);
+        if (record.stamp < before)
+            return put_result(result, HAZELCROOK_BACK_IN_TIME, line, 0);
+        if (!allowed(&buses, record.event))
+            return put_result(result, HAZELCROOK_IMPOSSIBLE, line, 0);
+        if (record.event == L_OFF && board->supply && board->flash.cycle == WRSR) {
+            clear_rest(replies, reply);
+            return put_result(result, HAZELCROOK_STATUS_LOST, record.stamp, count);
+        }
+        before = record.stamp;
+        play(board, &record, reply);
+        count += reply[3] == 2;
+    }
+    clear_rest(replies, reply);
+    return put_result(result, HAZELCROOK_SETTLED, 0, count);
+}
+
+uint32_t pass_replay(const uint8_t *text, size_t text_len, uint8_t *flash, size_t flash_len, uint8_t *flash_mask,
+                     size_t flash_mask_len, uint8_t *eeprom, size_t eeprom_len, uint8_t *eeprom_mask,
+                     size_t eeprom_mask_len, uint8_t *replies, size_t replies_len, uint8_t *result, size_t result_len)
+{
+    struct text left = {text, text + text_len};
+    struct board board;
+
+    if (result_len != HAZELCROOK_RESULT)
+        return HAZELCROOK_BAD_BUFFERS;
+    if (flash_len != HAZELCROOK_IMAGE || flash_mask_len != HAZELCROOK_IMAGE || eeprom_len != HAZELCROOK_IMAGE ||
+        eeprom_mask_len != HAZELCROOK_IMAGE || replies_len != HAZELCROOK_REPLIES ||
+        any_bit_in_both(flash, flash_mask) || any_bit_in_both(eeprom, eeprom_mask))
+        return put_result(result, HAZELCROOK_BAD_BUFFERS, 0, 0);
+    if (text_len > HAZELCROOK_TEXT)
+        return put_result(result, HAZELCROOK_TOO_LONG, 0, 0);
+    memset(&board, 0, sizeof board);
+    board.flash.values = flash;
+    board.flash.masks = flash_mask;
+    board.eeprom.values = eeprom;
+    board.eeprom.masks = eeprom_mask;
+    board.supply = 1;
+    if (!take_board(&left, &board))
+        return put_result(result, HAZELCROOK_BAD_LINE, 1, 0);
+    return pass(&left, &board, replies, result);
+}

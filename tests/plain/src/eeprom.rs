@@ -1,0 +1,172 @@
+//! The EEPROM ("EEPROM rules", "Supply").
+
+use crate::image::{Image, KEPT};
+use crate::orders::Chip;
+use crate::record::{EepromEvent, LineEvent, Lines, Reply};
+
+const PAGE: u16 = 64;
+const PLACES: u16 = KEPT as u16;
+
+/// Data for one page: the bytes, and a bit for each place that was sent.
+#[derive(Clone, Copy, PartialEq, Eq)]
+struct Data {
+    bytes: [u8; PAGE as usize],
+    sent: u64,
+}
+
+#[derive(Clone, Copy, PartialEq, Eq)]
+enum Frame {
+    Idle,
+    Void,
+    /// The address byte is still to come; whether the `sta` came in a cycle.
+    Started {
+        in_cycle: bool,
+    },
+    /// Addressed for a write; no place yet, or its high byte alone.
+    Writing,
+    WritingFrom {
+        high: u8,
+    },
+    /// The place is known; `next` is where the next byte goes.
+    Filling {
+        next: u16,
+        data: Data,
+    },
+    Reading,
+}
+
+#[derive(Clone, Copy, PartialEq, Eq)]
+struct Cycle {
+    page: u16,
+    data: Data,
+}
+
+#[derive(Clone, Copy, PartialEq, Eq)]
+pub struct Eeprom {
+    address: u8,
+    frame: Frame,
+    cycle: Option<Cycle>,
+    /// None where it is lost.
+    counter: Option<u16>,
+    pub image: Image,
+}
+
+impl Chip for Eeprom {
+    type Event = EepromEvent;
+
+    fn bus(&mut self, event: EepromEvent, lines: Lines) -> Reply {
+        match event {
+            EepromEvent::Sta if lines.supply => self.frame = Frame::Started { in_cycle: self.cycle.is_some() },
+            EepromEvent::Sta | EepromEvent::Cut => self.frame = Frame::Void,
+            EepromEvent::B { byte, nak } => return self.byte(byte, nak),
+            EepromEvent::Sto => return self.stop(lines),
+            EepromEvent::End => return self.end(),
+        }
+        Reply::Silent
+    }
+
+    fn line(&mut self, event: LineEvent, before: Lines) {
+        if before.falls(event) {
+            self.lose_supply();
+        }
+    }
+}
+
+impl Eeprom {
+    pub fn at_start(address: u8) -> Eeprom {
+        Eeprom { address, frame: Frame::Idle, cycle: None, counter: None, image: Image::BLANK }
+    }
+
+    fn byte(&mut self, byte: u8, nak: bool) -> Reply {
+        match &mut self.frame {
+            Frame::Idle | Frame::Void => return Reply::Silent,
+            Frame::Started { in_cycle } => {
+                let in_cycle = *in_cycle;
+                return self.addressed(byte, in_cycle);
+            }
+            Frame::Writing => self.frame = Frame::WritingFrom { high: byte },
+            Frame::WritingFrom { high } => {
+                let place = u16::from_be_bytes([*high, byte]) % PLACES;
+                self.frame = Frame::Filling { next: place, data: Data { bytes: [0; PAGE as usize], sent: 0 } };
+                self.counter = Some(place);
+            }
+            Frame::Filling { next, data } => {
+                data.bytes[usize::from(*next % PAGE)] = byte;
+                data.sent |= 1 << (*next % PAGE);
+                *next = *next / PAGE * PAGE + (*next + 1) % PAGE;
+                self.counter = Some(*next);
+            }
+            Frame::Reading => return self.read(nak),
+        }
+        Reply::Ack
+    }
+
+    fn addressed(&mut self, byte: u8, in_cycle: bool) -> Reply {
+        let own = byte >> 1 == 0b101_0000 | self.address;
+        let (frame, reply) = match (own, in_cycle, byte & 1) {
+            (false, _, _) => (Frame::Void, Reply::Silent),
+            (true, true, _) => (Frame::Void, Reply::NoAck),
+            (true, false, 0) => (Frame::Writing, Reply::Ack),
+            (true, false, _) => (Frame::Reading, Reply::Ack),
+        };
+        self.frame = frame;
+        reply
+    }
+
+    fn read(&mut self, nak: bool) -> Reply {
+        if nak {
+            self.frame = Frame::Void;
+        }
+        match self.counter {
+            None => Reply::Silent,
+            Some(counter) => {
+                self.counter = Some((counter + 1) % PLACES);
+                let place = usize::from(counter);
+                Reply::Byte { value: self.image.values[place], mask: self.image.masks[place] }
+            }
+        }
+    }
+
+    fn stop(&mut self, lines: Lines) -> Reply {
+        let mut reply = Reply::Silent;
+        if let Frame::Filling { next, data } = self.frame {
+            if data.sent != 0 && !lines.lock {
+                self.cycle = Some(Cycle { page: next / PAGE, data });
+                reply = Reply::Starts;
+            }
+        }
+        self.frame = Frame::Idle;
+        reply
+    }
+
+    fn end(&mut self) -> Reply {
+        match self.cycle.take() {
+            None => Reply::NoCycle,
+            Some(cycle) => {
+                self.change_page(&cycle, |sent| (sent, 0x00));
+                Reply::Ends
+            }
+        }
+    }
+
+    fn lose_supply(&mut self) {
+        if let Some(cycle) = self.cycle.take() {
+            self.change_page(&cycle, |_| (0x00, 0xff));
+        }
+        self.counter = None;
+        if self.frame != Frame::Idle {
+            self.frame = Frame::Void;
+        }
+    }
+
+    fn change_page(&mut self, cycle: &Cycle, change: impl Fn(u8) -> (u8, u8)) {
+        let first = usize::from(cycle.page * PAGE);
+        for (offset, &sent) in cycle.data.bytes.iter().enumerate() {
+            if cycle.data.sent >> offset & 1 == 1 {
+                let (value, mask) = change(sent);
+                self.image.values[first + offset] = value;
+                self.image.masks[first + offset] = mask;
+            }
+        }
+    }
+}
