@@ -1,4 +1,3 @@
--- What the proofs of `cell` share, and the laws of its rules.
-pub mod Digits
+-- The laws of the rules on one kept byte.
 pub mod Disjoint
 pub mod Neutral

@@ -1,7 +1,5 @@
 // One kept byte: its value, and a mask of the bits that are in doubt. A doubtful bit is 0 in the value.
 ghost use mathlib.Core.Path.{_≡_};
-ghost use lib.Bits.{bitAnd, bitOr};
-ghost use Prim.Native.Nat.{min, max};
 ghost use Rattle.cell.specs.Rules.{erasedCell, doubtfulCell, storedCell, programmedCell, cutCell, agreesCell};
 
 pub struct Cell {
@@ -36,25 +34,25 @@ pub fn stored(d: u8) -> Cell
     Cell { value: d, mask: 0 }
 }
 
-// A flash byte under data d after a program that ended.
+// 'Flash rules': a byte under data d after a program that ended.
 pub fn programmed(c: Cell, d: u8) -> Cell
     ensures { λ r. ⌜ r ≡ programmedCell c d ⌝ }
 {
+    let Cell { value: v, mask: m } = c;
     Cell {
-        value: and_bits(c.value, d),
-        mask: and_bits(c.mask, d),
+        value: v & d, // a 0 stays 0
+        mask: m & d, // a bit that d clears is sure
     }
 }
 
-// A flash byte under data d after a program that the supply cut: a bit on its way from 1 to 0 is in doubt.
+// 'Supply': a flash byte under data d after a program that was cut.
 pub fn cut_program(c: Cell, d: u8) -> Cell
     ensures { λ r. ⌜ r ≡ cutCell c d ⌝ }
 {
-    let falling = and_bits(c.value, 255 - d);
-    let left = and_bits(c.value, d);
+    let Cell { value: v, mask: m } = c;
     Cell {
-        value: left,
-        mask: or_bits(c.mask, falling),
+        value: v & d, // a bit in doubt is 0 in the value
+        mask: m | (v & !d), // a bit on its way from 1 to 0 is in doubt
     }
 }
 
@@ -63,44 +61,4 @@ pub fn agrees(c: Cell, seen: u8) -> bool
     ensures { λ r. ⌜ r ≡ agreesCell c seen ⌝ }
 {
     seen & !c.mask == c.value & !c.mask
-}
-
-// a AND b, bit after bit, from the top.
-fn and_bits(a: u8, b: u8) -> u8
-    ensures { λ r. ⌜ r ≡ bitAnd a b ⌝ }
-{
-    let mut r: u8 = 0;
-    let mut k: u8 = 8;
-    while 0 < k {
-        k -= 1;
-        r = r * 2 + lesser((a >> k) % 2, (b >> k) % 2);
-    }
-    r
-}
-
-// a OR b, bit after bit, from the top.
-fn or_bits(a: u8, b: u8) -> u8
-    ensures { λ r. ⌜ r ≡ bitOr a b ⌝ }
-{
-    let mut r: u8 = 0;
-    let mut k: u8 = 8;
-    while 0 < k {
-        k -= 1;
-        r = r * 2 + larger((a >> k) % 2, (b >> k) % 2);
-    }
-    r
-}
-
-// The lesser of two bits.
-fn lesser(x: u8, y: u8) -> u8
-    ensures { λ r. ⌜ r ≡ min x y ⌝ }
-{
-    if x < y { x } else { y }
-}
-
-// The larger of two bits.
-fn larger(x: u8, y: u8) -> u8
-    ensures { λ r. ⌜ r ≡ max x y ⌝ }
-{
-    if x < y { y } else { x }
 }
