@@ -19,5 +19,6 @@ pub mod WorkedCases
 pub mod Lent
 pub mod FourTexts
 pub mod ShutOut
+pub mod Verdict
 pub mod Demands
 pub mod SomeOutcome

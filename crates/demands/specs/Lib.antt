@@ -7,4 +7,5 @@ pub mod Replies
 pub mod Doubt
 pub mod Lines
 pub mod ShutOut
+pub mod Verdict
 pub mod Demands

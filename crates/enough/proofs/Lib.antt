@@ -3,3 +3,4 @@ pub mod Effects
 pub mod OneChip
 pub mod Whole
 pub mod Enough
+pub mod Pairs

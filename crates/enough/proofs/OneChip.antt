@@ -1,15 +1,16 @@
 -- One chip of the machine, decided by its control: what the orders of a stamp give on the machine is what they give on the chip's part, and that is what they give on the controls.
-use mathlib.Core.Path.{_≡_, refl, sym, subst}
+use mathlib.Core.Path.{_≡_, refl, sym, ap, subst, _∙_}
 use mathlib.Core.Bool.{Bool, true, false}
 use mathlib.Core.List.{List}
 use Prim.Native.Nat.{ℕ}
+use Rattle.tied.specs.Orders
 use Rattle.tied.specs.Control.{Control, Lawful, fetches, plain}
 use Rattle.tied.proofs.Parts as parts
-use Rattle.tied.proofs.Parts.{Effects, busWith, replyWith, lineWith, skeletons-are-enough, all-is-enough}
+use Rattle.tied.proofs.Parts.{Effects, busWith, replyWith, lineWith, skeletons-are-enough, all-is-enough, one-part, one-delivered, one-told}
 use Rattle.law.specs.Words.{All}
 use Rattle.meaning.specs.Meaning.{Channel, L, of, Allowed, Alike, after, replies}
 use Rattle.meaning.proofs.Allowing.{in-channel}
-use Rattle.meaning.proofs.Chips.{heard, Sees, Beside, chip-agrees, chip-decided, whole-part, part-whole}
+use Rattle.meaning.proofs.Chips.{heard, Sees, Beside, ordered, sees, hears, chip-agrees, chip-decided, whole-part, part-whole}
 use Rattle.record.specs.declared.Board.{Board}
 use Rattle.record.specs.declared.Record.{Record}
 use Rattle.record.specs.declared.Reply.{Reply}
@@ -22,8 +23,7 @@ use Rattle.image.specs.Image.{Image}
 use Rattle.orders.specs.Stamp.{played}
 use Rattle.orders.specs.Verdicts.{OrdersAgree}
 use Rattle.machine.specs.Replies.{delivered}
-use Rattle.machine.specs.Machine.{Machine, onMachine}
-use Rattle.enough.proofs.Sides.{onControls}
+use Rattle.machine.specs.Machine.{Machine, onMachine, onControls}
 
 -- ---- replies
 -- only a fetched byte depends on the image
@@ -112,3 +112,36 @@ module _ {b : Board} {c : Channel} {C Run Told : Type 0} {X : Control C Record R
     alike-chip t hp h =
         part-whole (onControls b) c side _ _ _ (Z .controls) rest (Z .beside) _ _ (in-channel (onMachine b) c p) (in-channel (onMachine b) L p) (m .controls)
         (all-is-enough X Y (Z .lawful) (Z .plain) read (Z .reads) _ _ (see side image m) good (chip-decided (onMachine b) c _ _ _ _ (Z .whole) p t hp m h))
+
+  -- two lists with the same records of the chip, in any order with the lines'
+  module _ (o q : List Record) (same-records : of (onMachine b) c o ≡ of (onMachine b) c q) (m : Machine) (good : X .Good (side (m .controls))) where
+    -- the chip says the same in both on the machine: then its skeletons on the controls are the same
+    pub told-alike : replies (onMachine b) c o m ≡ replies (onMachine b) c q m → replies (onControls b) c o (m .controls) ≡ replies (onControls b) c q (m .controls)
+    told-alike h =
+        hears (onControls b) c _ _ _ _ (Z .controls) o (m .controls)
+        ∙ one-told X Y (Z .lawful) (Z .plain) read (Z .reads) (ordered (onMachine b) c o) (ordered (onMachine b) c q) (see side image m) good same-records
+        (sym (hears (onMachine b) c _ _ _ _ (Z .whole) o m) ∙ h ∙ hears (onMachine b) c _ _ _ _ (Z .whole) q m)
+        ∙ sym (hears (onControls b) c _ _ _ _ (Z .controls) q (m .controls))
+
+    -- and where its skeletons and its last control are the same, so are its image and what it says
+    module _ (h : replies (onControls b) c o (m .controls) ≡ replies (onControls b) c q (m .controls)) where
+      abbrev skeletonsOf : List Record → List Skeleton
+      skeletonsOf l = Orders.replies (X .bus) (X .skel) (X .line) (ordered (onMachine b) c l) (side (m .controls))
+
+      skeletons-alike : skeletonsOf o ≡ skeletonsOf q
+      skeletons-alike = sym (hears (onControls b) c _ _ _ _ (Z .controls) o (m .controls)) ∙ h ∙ hears (onControls b) c _ _ _ _ (Z .controls) q (m .controls)
+
+      pub said-alike : replies (onMachine b) c o m ≡ replies (onMachine b) c q m
+      said-alike =
+          hears (onMachine b) c _ _ _ _ (Z .whole) o m
+          ∙ one-delivered X Y (Z .lawful) (Z .plain) (ordered (onMachine b) c o) (ordered (onMachine b) c q) (see side image m) good same-records skeletons-alike
+          ∙ sym (hears (onMachine b) c _ _ _ _ (Z .whole) q m)
+
+      pub seen-alike : side (after (onMachine b) o m .controls) ≡ side (after (onMachine b) q m .controls) → see side image (after (onMachine b) o m) ≡ see side image (after (onMachine b) q m)
+      seen-alike k =
+          let at-o = sees (onMachine b) c _ _ _ _ (Z .whole) o m in
+          let at-q = sees (onMachine b) c _ _ _ _ (Z .whole) q m in
+          at-o
+          ∙ one-part X Y (Z .lawful) (Z .plain) (ordered (onMachine b) c o) (ordered (onMachine b) c q) (see side image m) good same-records skeletons-alike
+          (sym (ap (λ (y : parts.Part C Image). y .control) at-o) ∙ k ∙ ap (λ (y : parts.Part C Image). y .control) at-q)
+          ∙ sym at-q

@@ -6,7 +6,7 @@ use Rattle.tied.specs.Control.{Control, Lawful}
 use Rattle.tied.proofs.Through.{through, through-lawful}
 use Rattle.law.specs.Choice.{true-not-false}
 use Rattle.law.specs.Words.{pick}
-use Rattle.meaning.specs.Meaning.{F, E, L, same, Rules}
+use Rattle.meaning.specs.Meaning.{F, E, L, same}
 use Rattle.meaning.proofs.Chips.{heard, Sees, Beside}
 use Rattle.record.specs.declared.Board.{Board}
 use Rattle.record.specs.declared.Record.{Record}
@@ -20,16 +20,14 @@ use Rattle.record.specs.declared.LineEvent.{LineEvent}
 use Rattle.record.specs.declared.LineEvent.the-variants as line-event
 use Rattle.record.specs.declared.Skeleton.{Skeleton}
 use Rattle.controls.specs.declared.Controls.{Controls}
-use Rattle.controls.specs.Play.{movedOf, startOf, eventMoved, lostOf}
+use Rattle.controls.specs.Play.{movedOf, startOf, eventMoved}
 use Rattle.flash.specs.Side as flash-side
 use Rattle.flash.specs.Told as flash-told
 use Rattle.flash.proofs.Laws as flash-laws
 use Rattle.eeprom.specs.Side as eeprom-side
 use Rattle.eeprom.specs.Told as eeprom-told
 use Rattle.eeprom.proofs.Laws as eeprom-laws
-use Rattle.orders.specs.Stamp.{played}
-use Rattle.orders.specs.Verdicts.{says}
-use Rattle.machine.specs.Machine.{channelOf}
+use Rattle.machine.specs.Machine.{channelOf, onControls}
 use Rattle.controls.specs.Sides.{flashSide, eepromSide}
 
 -- the event of a channel's record; what stands for the others never counts
@@ -62,10 +60,6 @@ pub eeprom-over-lawful : (b : Board) → Lawful (eepromOver b)
 eeprom-over-lawful b = through-lawful (eeprom-told.eepromControl (b .address)) (λ (r : Record). eepromEvent (r .event)) (λ (r : Record). lineEvent (r .event)) (eeprom-laws.eeprom-lawful (b .address))
 
 module _ (b : Board) where
-  -- the controls as a machine of their own, with skeleton replies
-  abbrev pub onControls : Rules Record Controls Skeleton
-  onControls = record { channel = λ r. channelOf (r .event); stamp = λ r. r .stamp; play = played b; says = says b; lost = lostOf }
-
   -- ---- the flash: the controls without it, and a row for each event: what it sees, what it says, and what its record leaves
   abbrev pub flashRest : Controls → Controls
   flashRest c = record { flash = startOf b .flash; eeprom = c .eeprom; lines = c .lines }
@@ -79,11 +73,11 @@ module _ (b : Board) where
   flash-row (event.Eeprom e) t c = (refl, (λ i. absurd (true-not-false (sym i))), refl)
   flash-row (event.Line e) t c = (refl, (λ i. absurd (true-not-false (sym i))), refl)
 
-  pub flash-seen : Sees onControls F flashSide (flashOver b .bus) (flashOver b .skel) (flashOver b .line)
+  pub flash-seen : Sees (onControls b) F flashSide (flashOver b .bus) (flashOver b .skel) (flashOver b .line)
   unfolding movedOf
   flash-seen = record { apart = refl; plays = λ c r. flash-row (r .event) (r .stamp) c .0; says = λ c r. flash-row (r .event) (r .stamp) c .1 }
 
-  pub flash-beside : Beside onControls F flashSide flashRest
+  pub flash-beside : Beside (onControls b) F flashSide flashRest
   unfolding movedOf
   flash-beside = record { plays = λ c r. flash-row (r .event) (r .stamp) c .2; all = λ c d f e i. record { flash = f i .chip; eeprom = e i .eeprom; lines = e i .lines } }
 
@@ -100,10 +94,10 @@ module _ (b : Board) where
   eeprom-row (event.Eeprom e) t c = (refl, (λ i. refl), refl)
   eeprom-row (event.Line e) t c = (refl, (λ i. absurd (true-not-false (sym i))), refl)
 
-  pub eeprom-seen : Sees onControls E eepromSide (eepromOver b .bus) (eepromOver b .skel) (eepromOver b .line)
+  pub eeprom-seen : Sees (onControls b) E eepromSide (eepromOver b .bus) (eepromOver b .skel) (eepromOver b .line)
   unfolding movedOf
   eeprom-seen = record { apart = refl; plays = λ c r. eeprom-row (r .event) (r .stamp) c .0; says = λ c r. eeprom-row (r .event) (r .stamp) c .1 }
 
-  pub eeprom-beside : Beside onControls E eepromSide eepromRest
+  pub eeprom-beside : Beside (onControls b) E eepromSide eepromRest
   unfolding movedOf
   eeprom-beside = record { plays = λ c r. eeprom-row (r .event) (r .stamp) c .2; all = λ c d e f i. record { flash = f i .flash; eeprom = e i .chip; lines = f i .lines } }

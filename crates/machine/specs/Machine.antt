@@ -5,6 +5,7 @@ use Rattle.record.specs.declared.Record.{Record}
 use Rattle.record.specs.declared.Event.{Event}
 use Rattle.record.specs.declared.Event.the-variants as event
 use Rattle.record.specs.declared.Reply.{Reply}
+use Rattle.record.specs.declared.Skeleton.{Skeleton}
 use Rattle.controls.specs.declared.Controls.{Controls}
 use Rattle.controls.specs.Play.{startOf, movedOf, lostOf}
 use Rattle.image.specs.Image.{Image}
@@ -49,4 +50,14 @@ onMachine b = record {
   play = playOn b;
   says = saysOn b;
   lost = λ m. lostOf (m .controls);
+}
+
+-- and the controls by themselves: no image, and a byte that is read is told by its place
+abbrev pub onControls : Board → Rules Record Controls Skeleton
+onControls b = record {
+  channel = λ r. channelOf (r .event);
+  stamp = λ r. r .stamp;
+  play = λ c r. movedOf b c r .controls;
+  says = λ c r. movedOf b c r .reply;
+  lost = lostOf;
 }

@@ -14,3 +14,4 @@ pub mod Chips
 pub mod AllOrders
 pub mod Witness
 pub mod SomeAnswer
+pub mod TwoMachines

@@ -207,13 +207,27 @@ module _ {C B L K D I E F : Type 0} (X : Control C B L K E F) (Y : Effects B K D
     run-delivers (busFirst {b = b} o) s t h = ap₂ _∷_ (delivered (s .control) b (s .image) (t .pending) (t .base) (h .good) (h .sides) _ refl) (run-delivers o (busWith s b) _ (bus-holds s t b h))
     run-delivers (lineFirst {l = l} o) s t h = run-delivers o (lineWith s l) t (line-holds s t l h)
 
-    -- two orders of the same bus records that agree in the skeletons and in the last control agree in the image
+    -- what is told before any record
+    abbrev toldFirst : (s : Part C I) → X .Good (s .control) → Told
+    toldFirst s good = record { pending = X .running (s .control); base = s .image; frame = A .frame (s .control) good .0 }
+
+    first-holds : (s : Part C I) (good : X .Good (s .control)) → Holds s (toldFirst s good)
+    first-holds s good = record { good = good; tracks = A .frame (s .control) good .1; sides = inl (refl, refl) }
+
+    -- two orders of the same bus records that agree in the skeletons agree in every delivered reply
+    pub one-delivered : {bs cs : List B} {ls ks : List L} (o : Order B L bs ls) (p : Order B L cs ks) (s : Part C I) → X .Good (s .control) → bs ≡ cs →
+        skeletons o (s .control) ≡ skeletons p (s .control) → deliveries o s ≡ deliveries p s
+    one-delivered o p s good same-records same-skeletons =
+        let t = toldFirst s good in
+        let h₀ = first-holds s good in
+        run-delivers o s t h₀ ∙ ap₂ (delivers t) same-records same-skeletons ∙ sym (run-delivers p s t h₀)
+
+    -- and where they agree in the last control too, in the image
     pub one-part : {bs cs : List B} {ls ks : List L} (o : Order B L bs ls) (p : Order B L cs ks) (s : Part C I) → X .Good (s .control) → bs ≡ cs →
         skeletons o (s .control) ≡ skeletons p (s .control) → afterPart o s .control ≡ afterPart p s .control → afterPart o s ≡ afterPart p s
     one-part o p s good same-records same-skeletons same-control =
-        let fr = A .frame (s .control) good in
-        let t : Told = record { pending = X .running (s .control); base = s .image; frame = fr .0 } in
-        let h₀ : Holds s t = record { good = good; tracks = fr .1; sides = inl (refl, refl) } in
+        let t = toldFirst s good in
+        let h₀ = first-holds s good in
         let told : tells t _ (skeletons o (s .control)) ≡ tells t _ (skeletons p (s .control)) = ap₂ (tells t) same-records same-skeletons in
         let is : afterPart o s .image ≡ afterPart p s .image =
         one-image _ _ _ _ _ (run-holds o s t h₀ .sides)
@@ -223,13 +237,10 @@ module _ {C B L K D I E F : Type 0} (X : Control C B L K E F) (Y : Effects B K D
     -- control decides: to compare the control and the skeletons is to compare all
     pub skeletons-are-enough : (bs : List B) (ls : List L) (s : Part C I) → X .Good (s .control) →
         AnyTwo (X .bus) (X .skel) (X .line) bs ls (s .control) → AnyTwo busWith replyWith lineWith bs ls s
-    skeletons-are-enough bs ls s good h o p =
-        let fr = A .frame (s .control) good in
-        let t : Told = record { pending = X .running (s .control); base = s .image; frame = fr .0 } in
-        let h₀ : Holds s t = record { good = good; tracks = fr .1; sides = inl (refl, refl) } in (
-          one-part o p s good refl (h o p .1) (run-control o s ∙ h o p .0 ∙ sym (run-control p s)),
-          run-delivers o s t h₀ ∙ ap (delivers t bs) (h o p .1) ∙ sym (run-delivers p s t h₀),
-        )
+    skeletons-are-enough bs ls s good h o p = (
+      one-part o p s good refl (h o p .1) (run-control o s ∙ h o p .0 ∙ sym (run-control p s)),
+      one-delivered o p s good refl (h o p .1),
+    )
 
     -- and the other way round, where a delivered reply and what was told before it give the skeleton: nothing is refused that should not be
     module _ (read : B → K → D → K) (reads : (b : B) (k h : K) (i : I) → X .Telling k h → read b h (Y .deliver i b k) ≡ k) where
