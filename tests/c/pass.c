@@ -513,32 +513,48 @@ static void stop_frame(struct eeprom *eeprom, int lock, uint8_t *reply)
     eeprom->frame = E_IDLE;
 }
 
-static void store(struct eeprom *eeprom, int cut)
+static uint32_t cycle_page(const struct eeprom *eeprom)
 {
-    uint32_t first = eeprom->next / EEPROM_PAGE * EEPROM_PAGE;
+    return eeprom->next / EEPROM_PAGE * EEPROM_PAGE;
+}
+
+/* The bytes sent. */
+static void store(struct eeprom *eeprom)
+{
+    uint32_t first = cycle_page(eeprom);
     uint32_t place;
 
     for (place = 0; place < EEPROM_PAGE; place++)
         if (eeprom->places >> place & 1) {
-            eeprom->values[first + place] = cut ? 0x00 : eeprom->page[place];
-            eeprom->masks[first + place] = cut ? 0xff : 0x00;
+            eeprom->values[first + place] = eeprom->page[place];
+            eeprom->masks[first + place] = 0x00;
         }
-    eeprom->in_cycle = 0;
+}
+
+/* A cut cycle leaves nothing sure in its page, sent or not (request 3/12). */
+static void doubt_page(struct eeprom *eeprom)
+{
+    uint32_t first = cycle_page(eeprom);
+
+    memset(eeprom->values + first, 0x00, EEPROM_PAGE);
+    memset(eeprom->masks + first, 0xff, EEPROM_PAGE);
 }
 
 static void end_eeprom(struct eeprom *eeprom, uint8_t *reply)
 {
     if (eeprom->in_cycle) {
-        store(eeprom, 0);
+        store(eeprom);
         put_kind(reply, HAZELCROOK_ENDS);
     } else
         put_kind(reply, HAZELCROOK_NO_CYCLE);
+    eeprom->in_cycle = 0;
 }
 
 static void lose_eeprom(struct eeprom *eeprom)
 {
     if (eeprom->in_cycle)
-        store(eeprom, 1);
+        doubt_page(eeprom);
+    eeprom->in_cycle = 0;
     eeprom->has_counter = 0;
     if (eeprom->frame != E_IDLE)
         eeprom->frame = E_VOID;

@@ -75,7 +75,7 @@ eeprom-after : (k : Stroke) (x : Eeprom) (i : Image) → Clean i → Clean (eepr
 unfolding eepromAfter
 eeprom-after Nothing x i h = h
 eeprom-after Whole x i h = eeprom-by _ i h (λ s. clean-storePage i h (s .page) (s .first) (s .count) (x .page)) (x .cycle)
-eeprom-after Cut x i h = eeprom-by _ i h (λ s. clean-cutStorePage i h (s .page) (s .first) (s .count)) (x .cycle)
+eeprom-after Cut x i h = eeprom-by _ i h (λ s. clean-cutStorePage i h (s .page)) (x .cycle)
 
 -- ---- a record keeps it, and so do all records
 images-clean : (b : Board) (c : Controls) (v : Event) (k : Skeleton) (x : Images) → AllClean x → AllClean (imagesAfter b c v k x)

@@ -57,7 +57,7 @@ all-short [] o = omega arith
 all-short (r ∷ rs) o = omega (arith, spelled-length-max r (o .0 .0), all-short rs (o .1), length-append (spelled r) (spelledAll rs))
 
 -- so it is where board and records are in range, no stamp falls back, no record is impossible, and the records are few
-is-written : (b : Board) (rs : List Record) → BoardOk b → All RecordOk rs → RisingFrom (λ (r : Record). r .stamp) 0 rs → Possible (busesAfter rs) → length rs ≤ 100 → Written b rs
+pub is-written : (b : Board) (rs : List Record) → BoardOk b → All RecordOk rs → RisingFrom (λ (r : Record). r .stamp) 0 rs → Possible (busesAfter rs) → length rs ≤ 100 → Written b rs
 unfolding spelledTrace
 is-written b rs h o n k m = record {
   reads = record { board = h; fits = o; acceptable = record { never-back = from-rising (λ (r : Record). r .stamp) 0 rs n; possible = k }; is = refl };
@@ -68,7 +68,7 @@ pub board-written : (b : Board) → BoardOk b → Written b []
 unfolding All RisingFrom buses.after
 board-written b k = is-written b [] k tt tt (_, refl) (omega arith)
 
-plain-ok : BoardOk plain
+pub plain-ok : BoardOk plain
 plain-ok = ((omega arith, refl, refl), ((omega arith, omega arith, omega arith), (omega arith, omega arith, omega arith)))
 
 pub listing-written : (so : ℕ) → so < 256 → Written plain (listing so)

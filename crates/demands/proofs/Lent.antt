@@ -61,3 +61,7 @@ erased-fits =
 pub erased-flash : cellAt (erased .images .flash) 0 ≡ erasedCell
 unfolding erased bothErased
 erased-flash = erased-at (keptBytes Flash) 0 (omega arith)
+
+pub erased-eeprom : cellAt (erased .images .eeprom) 0x0040 ≡ erasedCell
+unfolding erased bothErased
+erased-eeprom = erased-at (keptBytes Eeprom) 0x0040 (omega arith)

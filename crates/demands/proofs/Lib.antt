@@ -18,6 +18,7 @@ pub mod BenchSheet
 pub mod WorkedCases
 pub mod Lent
 pub mod FourTexts
+pub mod PageCut
 pub mod ShutOut
 pub mod Verdict
 pub mod Demands

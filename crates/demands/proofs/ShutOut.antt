@@ -10,13 +10,14 @@ use Rattle.meaning.proofs.Allowing.{itself}
 use Rattle.meaning.specs.Listing.{said}
 use Rattle.record.specs.declared.Record.{Record}
 use Rattle.record.specs.declared.FlashEvent.the-variants as flash
-use Rattle.cell.specs.Rules.{erasedCell, storedCell}
+use Rattle.cell.specs.Rules.{erasedCell, storedCell, doubtfulCell}
 use Rattle.record.specs.declared.Chip.{Chip}
 use Rattle.image.specs.Image.{cellAt}
 use Rattle.image.specs.Images.{Images, keptBytes}
 use Rattle.image.proofs.AtPlace.{programPage-erased}
 use Rattle.controls.specs.Play.{movedOf}
 use Rattle.machine.specs.Effects.{flashAfter, eepromAfter}
+use Rattle.machine.proofs.EepromWritten.{cut-in-page}
 use Rattle.machine.specs.Replies.{delivered, compared}
 use Rattle.machine.specs.Machine.{machineAtStart, onMachine, playOn, saysOn}
 use Rattle.text.specs.Texts.{spelledTrace}
@@ -29,9 +30,11 @@ use Rattle.demands.proofs.BenchCases.{case11, case12}
 use Rattle.demands.proofs.Readable.{readable-back}
 use Rattle.demands.proofs.Stops.{means-shown, settled-shows}
 use Rattle.demands.proofs.Replies.{each-reply, settled-count}
-use Rattle.demands.proofs.Lent.{erased, erased-fits, erased-flash}
+use Rattle.demands.proofs.Lent.{erased, erased-fits, erased-flash, erased-eeprom}
+use Rattle.demands.specs.Worked.{pageCut}
 use Rattle.demands.specs.ShutOut.{listing, wrenOff, programOff, sent, programmed, ShutOut}
 use Rattle.demands.proofs.FourTexts.{Written, listing-written, wrenOff-written, programOff-written, programmed-written, listing-settled, programmed-settled}
+use Rattle.demands.proofs.PageCut.{pageCut-written, pageCut-settled}
 
 -- ---- any outcome for a short text on buffers that fit
 module _ (x : Buffers) (h : fit x ≡ true) {e : Ended} where
@@ -70,6 +73,17 @@ module _ (x : Buffers) (h : fit x ≡ true) {e : Ended} where
   last-stamp-played p =
       each-reply p h (programmed-written .short) (programmed-written .reads) (wren 10 ++ sent) (onF 30 flash.End) [] refl (program-settles p)
 
+  -- a page write that is cut settles, and its whole page is in doubt
+  cut-settles : Replays (spelledTrace plain pageCut) x e → e .answer ≡ 0
+  cut-settles = answers pageCut pageCut-written 0 (pageCut-settled (x .images))
+
+  page-doubtful : Replays (spelledTrace plain pageCut) x e → cellAt (e .buffers .images .eeprom) 0x0040 ≡ doubtfulCell
+  unfolding after playOn movedOf flashAfter eepromAfter
+  page-doubtful p =
+      ap (λ (i : Images). cellAt (i .eeprom) 0x0040)
+      (settled-shows p h (pageCut-written .short) (pageCut-written .reads) (cut-settles p) pageCut (itself (onMachine plain) pageCut (readable-back (pageCut-written .reads))) .images)
+      ∙ cut-in-page 0x007f (0x11 ∷ []) (x .images .eeprom) 0x0040 (omega arith) (fit-says x h .kept Chip.Eeprom) refl
+
 pub shut-out : ShutOut
 shut-out = record {
   refuses-everything = λ x e h. listing-settles x h 0x00 (omega arith);
@@ -79,5 +93,6 @@ shut-out = record {
   plays-the-first-stamp = λ x e h. last-stamp-played x h;
   counts-none = λ x e h. counts-none x h;
   counts-one = λ x e h. counts-one x h;
-  some-fit = (erased, erased-fits, erased-flash);
+  doubts-only-the-sent = λ x e h. page-doubtful x h;
+  some-fit = (erased, erased-fits, erased-flash, erased-eeprom);
 }

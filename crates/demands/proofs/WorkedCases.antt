@@ -1,23 +1,33 @@
--- Why the worked cases hold: the controls by computing, a byte that is compared by its last bit, the limit by the ground of refusal 2.
+-- Why the worked cases hold: the controls by computing, a cut page by its law, a byte that is compared by its last bit, the limit by the ground of refusal 2.
 use mathlib.Core.Path.{_≡_, refl, ap, _∙_}
+use mathlib.Core.Bool.{false}
 use mathlib.Core.List.{List, [], _∷_}
-use Prim.Native.Nat.{ℕ, _%_}
+use Prim.Native.Nat.{ℕ, _+_, _%_}
 use native.Mathlib.Omega.{arith}
 use lib.Bits.{bitAnd, and-mask}
 use lib.Dec.{eqb}
+use lib.ListN.{set}
+use borrow.Author.Tests.{le-ltb}
 use Rattle.meaning.specs.Meaning.{after}
 use Rattle.meaning.specs.Listing.{said}
 use Rattle.record.specs.declared.Reply.the-variants.{Silent}
 use Rattle.record.specs.Replies.{matchNumber}
 use Rattle.cell.specs.declared.Cell.{Cell}
-use Rattle.image.specs.Images.{Images}
+use Rattle.page.specs.Rolling.{sentPlace}
+use Rattle.record.specs.declared.Chip.{Chip}
+use Rattle.image.specs.Images.{Images, keptBytes}
+use Rattle.image.specs.Cycles.{cutStorePage}
+use Rattle.image.proofs.AtPlace.{storePage-at, storePage-unsent}
+use Rattle.image.proofs.Keeping.{spans-cutStorePage}
+use Rattle.eeprom.specs.Chip as eeprom-chip
 use Rattle.controls.specs.Play.{movedOf}
 use Rattle.machine.specs.Effects.{flashAfter, eepromAfter}
+use Rattle.machine.proofs.EepromWritten.{cut-in-page, cut-elsewhere}
 use Rattle.machine.specs.Replies.{delivered, agreesIf, compared}
 use Rattle.machine.specs.Machine.{playOn, saysOn}
 use Rattle.call.specs.Replay.{replyLines}
 use Rattle.demands.specs.Bench.{byteOf, AllHold}
-use Rattle.demands.specs.Worked.{reading, NoneLocked, OneLocked, TwoLocked, AllLocked, ChipErases, ChipClears, Wired, GoesOn, sixth, Matched, NoSureBit, OneSureBit, Limit, WorkedCases}
+use Rattle.demands.specs.Worked.{reading, NoneLocked, OneLocked, TwoLocked, AllLocked, ChipErases, ChipClears, Wired, GoesOn, PageInDoubt, InPartRewritten, sixth, Matched, NoSureBit, OneSureBit, Limit, WorkedCases}
 use Rattle.demands.proofs.FirstBadLine.{too-long}
 
 -- the reply bytes of a READ, by the byte that is kept
@@ -64,6 +74,25 @@ module _ (x : Images) where
   unfolding said playOn saysOn movedOf delivered flashAfter eepromAfter
   goes-on = refl
 
+  page-in-doubt : PageInDoubt x
+  unfolding after playOn movedOf flashAfter eepromAfter
+  page-in-doubt kept = (
+    (λ k l h. cut-in-page 0x007f (0x11 ∷ []) (x .eeprom) k (omega arith) (kept Chip.Eeprom) (omega arith)),
+    (λ k l. cut-elsewhere 0x007f (0x11 ∷ []) (x .eeprom) k (λ e. omega arith)),
+    λ k l. cut-elsewhere 0x007f (0x11 ∷ []) (x .eeprom) k (λ e. omega arith),
+  )
+
+  in-part-rewritten : InPartRewritten x
+  unfolding after playOn movedOf flashAfter eepromAfter
+  in-part-rewritten kept =
+      let page : List ℕ = set eeprom-chip.blank 1 0x22 in
+      let fit = spans-cutStorePage (x .eeprom) (keptBytes Chip.Eeprom) 1 ∙ kept Chip.Eeprom in (
+        storePage-at (cutStorePage 1 (x .eeprom)) (keptBytes Chip.Eeprom) fit 1 1 1 page (omega arith) 1 (omega arith) refl,
+        λ k l h n.
+            let unsent : sentPlace 64 1 1 (k % 64) ≡ false = le-ltb ((k % 64 + 63) % 64) 1 (omega arith) in
+            storePage-unsent 1 1 1 page (cutStorePage 1 (x .eeprom)) k unsent ∙ page-in-doubt kept .0 k l h,
+      )
+
   no-sure-bit : NoSureBit x
   unfolding said playOn saysOn movedOf delivered flashAfter eepromAfter replyLines compared
   no-sure-bit so h = ap (readAs so) h
@@ -89,4 +118,4 @@ module _ (x : Images) where
 -- all of them
 pub worked-cases : WorkedCases
 unfolding AllHold
-worked-cases x = (none-locked x, (one-locked x, (two-locked x, (all-locked x, (chip-erases x, (chip-clears x, (wired x, (goes-on x, (no-sure-bit x, (one-sure-bit x, (limit x, tt)))))))))))
+worked-cases x = (none-locked x, (one-locked x, (two-locked x, (all-locked x, (chip-erases x, (chip-clears x, (wired x, (goes-on x, (page-in-doubt x, (in-part-rewritten x, (no-sure-bit x, (one-sure-bit x, (limit x, tt)))))))))))))

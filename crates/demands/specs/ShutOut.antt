@@ -1,4 +1,4 @@
--- Believed: Demand 13: wrong programs are shut out (document 01, 'What the proofs must leave no room for'). Each claim names one text, which such a program would answer otherwise, and speaks of any outcome e that the promise of the exported call admits for it on any buffers that fit.
+-- Believed: Demand 13: wrong programs are shut out (document 01, 'What the proofs must leave no room for'; request 3/12). Each claim names one text, which such a program would answer otherwise, and speaks of any outcome e that the promise of the exported call admits for it on any buffers that fit.
 use mathlib.Core.Path.{_≡_}
 use mathlib.Core.Bool.{true}
 use mathlib.Core.List.{List, [], _∷_, _++_}
@@ -7,13 +7,14 @@ use lib.ListN.{take, drop}
 use Rattle.record.specs.declared.Record.{Record}
 use Rattle.record.specs.declared.FlashEvent.the-variants as flash
 use Rattle.record.specs.declared.LineEvent.the-variants.{SupplyOff}
-use Rattle.cell.specs.Rules.{erasedCell, storedCell}
+use Rattle.cell.specs.Rules.{erasedCell, storedCell, doubtfulCell}
 use Rattle.image.specs.Image.{cellAt}
 use Rattle.text.specs.Texts.{spelledTrace}
 use Rattle.buffers.specs.Buffers.{Buffers, fit, resultBytes}
 use Rattle.call.specs.Replay.{Ended, Replays}
 use Rattle.record.specs.Records.{onF, onL}
 use Rattle.demands.specs.Bench.{plain, opened, framed, wren, three}
+use Rattle.demands.specs.Worked.{pageCut}
 
 -- ---- the texts
 -- 'One listing in full', with the byte that was recorded for the status
@@ -56,5 +57,7 @@ pub record ShutOut : Type 0 where
   -- one whose count is invented: it is 0 where the status 00 was recorded as 00, and 1 where it was recorded as 01
   pub counts-none : Every (listing 0x00) (λ x e. e .buffers .result ≡ resultBytes 0 0 0)
   pub counts-one : Every (listing 0x01) (λ x e. e .buffers .result ≡ resultBytes 0 0 1)
-  -- and there are such buffers
-  pub some-fit : (x : Buffers) × (fit x ≡ true) × (cellAt (x .images .flash) 0x00000 ≡ erasedCell)
+  -- one that puts in doubt only the bytes sent (request 3/12): where the write of one byte to 007f is cut, 0040, which nothing was sent to, is 00/ff
+  pub doubts-only-the-sent : Every pageCut (λ x e. cellAt (e .buffers .images .eeprom) 0x0040 ≡ doubtfulCell)
+  -- and there are such buffers, on which both places were sure
+  pub some-fit : (x : Buffers) × (fit x ≡ true) × (cellAt (x .images .flash) 0x00000 ≡ erasedCell) × (cellAt (x .images .eeprom) 0x0040 ≡ erasedCell)

@@ -1,24 +1,26 @@
--- Believed: Worked cases of rules that the bench sheet does not touch, each outcome taken from document 01 by hand; in the words of the sheet (Bench).
+-- Believed: Worked cases of rules that the bench sheet does not touch, each outcome taken from document 01 or a request of document 02 by hand; in the words of the sheet (Bench).
 use mathlib.Core.Path.{_≡_}
 use mathlib.Core.Bool.{true}
 use mathlib.Core.Logic.{_≢_}
 use mathlib.Core.List.{List, [], _∷_, _++_, map}
-use Prim.Native.Nat.{ℕ, _+_, _%_}
+use Prim.Native.Nat.{ℕ, _+_, _%_, _≤_, _<_}
 use lib.ListN.{length, replicate}
 use Rattle.record.specs.declared.Board.{Board}
 use Rattle.record.specs.declared.Record.{Record}
 use Rattle.record.specs.declared.FlashEvent.the-variants as flash
+use Rattle.record.specs.declared.EepromEvent.the-variants as eeprom
+use Rattle.record.specs.declared.LineEvent.the-variants.{SupplyOn, SupplyOff}
 use Rattle.record.specs.declared.Reply.{Reply}
 use Rattle.record.specs.declared.Reply.the-variants.{Silent, Ack, Starts}
 use Rattle.meaning.specs.Meaning.{after}
 use Rattle.image.specs.Image.{Image, cellAt}
 use Rattle.image.specs.Cycles.{eraseAll}
 use Rattle.machine.specs.Machine.{machineAtStart, onMachine}
-use Rattle.image.specs.Images.{Images}
+use Rattle.image.specs.Images.{Images, Kept}
 use Rattle.buffers.specs.Buffers.{Buffers, fit}
 use Rattle.call.specs.Replay.{Ended, replyLines, Replays}
-use Rattle.record.specs.Records.{onF}
-use Rattle.demands.specs.Bench.{boardOf, plain, opened, framed, wren, three, two, addressed, cell, saidOn, byteOf, AllHold}
+use Rattle.record.specs.Records.{onF, onE, onL}
+use Rattle.demands.specs.Bench.{boardOf, plain, opened, framed, wren, three, two, addressed, stored, cell, eepromAt, saidOn, byteOf, AllHold}
 
 -- ---- 'Flash rules': 'Locked out by BP1 BP0: 00 none, 01 sector 4, 10 sectors 3 and 4, 11 all'; BP1 is bit 3 of the status, BP0 bit 2
 -- a sector erase of an address, and a PROGRAM of one byte there
@@ -125,6 +127,29 @@ GoesOn x =
     saidOn plain (addressed (0xa0 ∷ two 0x3fff) ++ addressed (0xa1 ∷ 0x00 ∷ 0x00 ∷ [])) x
     ≡ Silent ∷ Ack ∷ Ack ∷ Ack ∷ Silent ∷ Ack ∷ byteOf (cellAt (x .eeprom) 0x3fff) ∷ byteOf (cellAt (x .eeprom) 0x4000) ∷ []
 
+-- ---- request 3/12: 'a cut EEPROM cycle puts the whole page in doubt, 00/ff, not only the bytes sent'
+-- one byte, 11, is written to 007f, the last place of its page, and the supply goes off in the cycle
+abbrev pub written : List Record
+written = addressed (0xa0 ∷ (two 0x007f ++ (0x11 ∷ []))) ++ (onE 0 eeprom.Stop ∷ [])
+
+abbrev pub pageCut : List Record
+pageCut = written ++ (onL 10 SupplyOff ∷ [])
+
+-- 0040 to 007f are 00/ff, and every place before and behind them is as it was
+abbrev pub PageInDoubt : Images → Type 0
+PageInDoubt x =
+    Kept x →
+    ((k : ℕ) → 0x0040 ≤ k → k ≤ 0x007f → eepromAt pageCut x k ≡ cell 0x00 0xff)
+    × ((k : ℕ) → k < 0x0040 → eepromAt pageCut x k ≡ cellAt (x .eeprom) k)
+    × ((k : ℕ) → 0x007f < k → eepromAt pageCut x k ≡ cellAt (x .eeprom) k)
+
+-- then 22 is written to 0041, to its `end`: 0041 is 22/00, and the page's other places, 007f too, stay 00/ff
+abbrev pub InPartRewritten : Images → Type 0
+InPartRewritten x =
+    Kept x →
+    (eepromAt (pageCut ++ (onL 10 SupplyOn ∷ stored 0x0041 (0x22 ∷ []))) x 0x0041 ≡ cell 0x22 0x00)
+    × ((k : ℕ) → 0x0040 ≤ k → k ≤ 0x007f → k ≢ 0x0041 → eepromAt (pageCut ++ (onL 10 SupplyOn ∷ stored 0x0041 (0x22 ∷ []))) x k ≡ cell 0x00 0xff)
+
 -- ---- 'Replies and stopping': 'Kinds 2 (unless the mask is ff), 3 and 4 are compared'; 'Bytes and doubt': 'A read is compared on its sure bits only'
 -- READ of 00000, with the byte that was recorded
 abbrev pub reading : ℕ → List Record
@@ -166,7 +191,7 @@ Limit x =
 
 -- ---- the list
 abbrev pub worked : List (Images → Type 0)
-worked = NoneLocked ∷ OneLocked ∷ TwoLocked ∷ AllLocked ∷ ChipErases ∷ ChipClears ∷ Wired ∷ GoesOn ∷ NoSureBit ∷ OneSureBit ∷ Limit ∷ []
+worked = NoneLocked ∷ OneLocked ∷ TwoLocked ∷ AllLocked ∷ ChipErases ∷ ChipClears ∷ Wired ∷ GoesOn ∷ PageInDoubt ∷ InPartRewritten ∷ NoSureBit ∷ OneSureBit ∷ Limit ∷ []
 
 -- they hold of all images
 abbrev pub WorkedCases : Type 0

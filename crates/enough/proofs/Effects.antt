@@ -53,7 +53,7 @@ flashEffects b = record {
 abbrev pub eepromEffects : Effects Record Skeleton Reply Image eeprom-told.Writing
 eepromEffects = record {
   whole = λ x i. storePage (x .sent .page) (x .sent .first) (x .sent .count) (x .bytes) i;
-  cut = λ x i. cutStorePage (x .sent .page) (x .sent .first) (x .sent .count) i;
+  cut = λ x i. cutStorePage (x .sent .page) i;
   deliver = λ i r k. delivered i k;
 }
 
@@ -109,7 +109,7 @@ module _ (b : Board) where
   eeprom-whole-is eeprom-cycle.None page i = refl
   eeprom-whole-is (eeprom-cycle.Write s) page i = refl
 
-  eeprom-cut-is : (c : EepromCycle) (page : List ℕ) (i : Image) → eepromBy (λ s. cutStorePage (s .page) (s .first) (s .count)) c i ≡ imageLine (eepromOver b) eepromEffects (eeprom-told.runsIn c page) idle i
+  eeprom-cut-is : (c : EepromCycle) (page : List ℕ) (i : Image) → eepromBy (λ s. cutStorePage (s .page)) c i ≡ imageLine (eepromOver b) eepromEffects (eeprom-told.runsIn c page) idle i
   unfolding imageLine
   eeprom-cut-is eeprom-cycle.None page i = refl
   eeprom-cut-is (eeprom-cycle.Write s) page i = refl

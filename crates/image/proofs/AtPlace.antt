@@ -48,19 +48,16 @@ module _ (i : Image) (n : ℕ) (t : spans n i ≡ true) where
     storePage-at =
         page-at-place eepromPage number (λ j c. pick (sentPlace eepromPage first count j) (storedCell (getD bytes j 0)) c) i n t h q l ∙ simp w
 
-    pub cutStorePage-at : cellAt (cutStorePage number first count i) (eepromPage * number + q) ≡ doubtfulCell
-    unfolding cutStorePage
-    cutStorePage-at = page-at-place eepromPage number (λ j c. pick (sentPlace eepromPage first count j) doubtfulCell c) i n t h q l ∙ simp w
+  -- cut, each place of the page is in doubt
+  pub cutStorePage-at : (number : ℕ) → number < n / eepromPage → (q : ℕ) → q < eepromPage → cellAt (cutStorePage number i) (eepromPage * number + q) ≡ doubtfulCell
+  unfolding cutStorePage
+  cutStorePage-at number h q l = page-at-place eepromPage number (λ j c. doubtfulCell) i n t h q l
 
 -- a place that was not sent is as it was
 module _ (number first count : ℕ) (bytes : List ℕ) (i : Image) (k : ℕ) (u : sentPlace eepromPage first count (k % eepromPage) ≡ false) where
   pub storePage-unsent : cellAt (storePage number first count bytes i) k ≡ cellAt i k
   unfolding storePage
   storePage-unsent = page-same eepromPage number (λ q c. pick (sentPlace eepromPage first count q) (storedCell (getD bytes q 0)) c) i k (simp u)
-
-  pub cutStorePage-unsent : cellAt (cutStorePage number first count i) k ≡ cellAt i k
-  unfolding cutStorePage
-  cutStorePage-unsent = page-same eepromPage number (λ q c. pick (sentPlace eepromPage first count q) doubtfulCell c) i k (simp u)
 
 -- ff changes nothing
 module _ (number : ℕ) (bytes : List ℕ) (i : Image) (k : ℕ) (b : ByteCell (cellAt i k)) (u : getD bytes (k % flashPage) 0 ≡ 255) where
@@ -101,6 +98,6 @@ module _ (number : ℕ) (i : Image) where
   unfolding storePage
   storePage-none first count bytes h = page-none i eepromPage number (λ q c. pick (sentPlace eepromPage first count q) (storedCell (getD bytes q 0)) c) h
 
-  pub cutStorePage-none : (first count : ℕ) → sizeOf i / eepromPage ≤ number → cutStorePage number first count i ≡ i
+  pub cutStorePage-none : sizeOf i / eepromPage ≤ number → cutStorePage number i ≡ i
   unfolding cutStorePage
-  cutStorePage-none first count h = page-none i eepromPage number (λ q c. pick (sentPlace eepromPage first count q) doubtfulCell c) h
+  cutStorePage-none h = page-none i eepromPage number (λ q c. doubtfulCell) h

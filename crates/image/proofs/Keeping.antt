@@ -43,9 +43,9 @@ module _ (i : Image) (n : ℕ) where
   unfolding storePage
   spans-storePage number first count bytes = page-spans eepromPage number (λ q c. pick (sentPlace eepromPage first count q) (storedCell (getD bytes q 0)) c) i n
 
-  pub spans-cutStorePage : (number first count : ℕ) → spans n (cutStorePage number first count i) ≡ spans n i
+  pub spans-cutStorePage : (number : ℕ) → spans n (cutStorePage number i) ≡ spans n i
   unfolding cutStorePage
-  spans-cutStorePage number first count = page-spans eepromPage number (λ q c. pick (sentPlace eepromPage first count q) doubtfulCell c) i n
+  spans-cutStorePage number = page-spans eepromPage number (λ q c. doubtfulCell) i n
 
 -- what the rule keeps of each byte, the image keeps of all
 module _ (P : Cell → Type 0) (none : P noCell) (i : Image) (had : (k : ℕ) → P (cellAt i k)) where
@@ -96,11 +96,9 @@ module _ (i : Image) (h : Clean i) where
       page-keeps Disjoint none i h eepromPage number (λ q c. pick (sentPlace eepromPage first count q) (storedCell (getD bytes q 0)) c)
       (λ q c p. of-both Disjoint (sentPlace eepromPage first count q) (storedCell (getD bytes q 0)) c (disjoint-stored (getD bytes q 0)) p)
 
-  pub clean-cutStorePage : (number first count : ℕ) → Clean (cutStorePage number first count i)
+  pub clean-cutStorePage : (number : ℕ) → Clean (cutStorePage number i)
   unfolding cutStorePage Clean
-  clean-cutStorePage number first count =
-      page-keeps Disjoint none i h eepromPage number (λ q c. pick (sentPlace eepromPage first count q) doubtfulCell c)
-      (λ q c p. of-both Disjoint (sentPlace eepromPage first count q) doubtfulCell c disjoint-doubtful p)
+  clean-cutStorePage number = page-keeps Disjoint none i h eepromPage number (λ q c. doubtfulCell) (λ q c p. disjoint-doubtful)
 
 -- values and masks are bytes
 unfoldable pub Bytes : Image → Type 0
@@ -135,8 +133,6 @@ module _ (i : Image) (h : Bytes i) where
       page-keeps ByteCell zero-byte i h eepromPage number (λ q c. pick (sentPlace eepromPage first count q) (storedCell (getD bytes q 0)) c)
       (λ q c p. of-both ByteCell (sentPlace eepromPage first count q) (storedCell (getD bytes q 0)) c (byte-stored (getD bytes q 0) (small q)) p)
 
-  pub bytes-cutStorePage : (number first count : ℕ) → Bytes (cutStorePage number first count i)
+  pub bytes-cutStorePage : (number : ℕ) → Bytes (cutStorePage number i)
   unfolding cutStorePage Bytes
-  bytes-cutStorePage number first count =
-      page-keeps ByteCell zero-byte i h eepromPage number (λ q c. pick (sentPlace eepromPage first count q) doubtfulCell c)
-      (λ q c p. of-both ByteCell (sentPlace eepromPage first count q) doubtfulCell c byte-doubtful p)
+  bytes-cutStorePage number = page-keeps ByteCell zero-byte i h eepromPage number (λ q c. doubtfulCell) (λ q c p. byte-doubtful)

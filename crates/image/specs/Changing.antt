@@ -15,7 +15,7 @@ abbrev pub changedCell : Change → ℕ → Cell → ℕ → Cell
 changedCell Program q c d = programmedCell c d
 changedCell CutProgram q c d = cutCell c d
 changedCell (Store first count) q c d = pick (sentPlace eepromPage first count q) (storedCell d) c
-changedCell (CutStore first count) q c d = pick (sentPlace eepromPage first count q) doubtfulCell c
+changedCell CutStore q c d = doubtfulCell
 
 abbrev pub changedPlace : Change → List ℕ → ℕ → Cell → Cell
 changedPlace how bytes q c = changedCell how q c (getD bytes q 0)

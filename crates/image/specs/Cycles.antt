@@ -1,5 +1,5 @@
 -- Believed: What a cycle makes of a chip's kept bytes: one rule where it ended whole, one where the supply cut it (document 01, 'Flash rules',
--- 'EEPROM rules', 'Supply').
+-- 'EEPROM rules', 'Supply'; request 3/12).
 use Prim.Native.Nat.{ℕ}
 use mathlib.Core.List.{List}
 use lib.ListN.{getD}
@@ -29,6 +29,6 @@ cutEraseAll = onImage (λ k c. doubtfulCell)
 unfoldable pub storePage : ℕ → ℕ → ℕ → List ℕ → Image → Image
 storePage number first count bytes = onPage eepromPage number (λ q c. pick (sentPlace eepromPage first count q) (storedCell (getD bytes q 0)) c)
 
--- an EEPROM write at `off`: the bytes sent are 00/ff, others unchanged
-unfoldable pub cutStorePage : ℕ → ℕ → ℕ → Image → Image
-cutStorePage number first count = onPage eepromPage number (λ q c. pick (sentPlace eepromPage first count q) doubtfulCell c)
+-- an EEPROM write at `off`: the whole page is 00/ff, sent or not (request 3/12, in place of 'the EEPROM bytes sent 00/ff, others unchanged')
+unfoldable pub cutStorePage : ℕ → Image → Image
+cutStorePage number = onPage eepromPage number (λ q c. doubtfulCell)

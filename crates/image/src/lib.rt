@@ -39,7 +39,7 @@ enum Change {
     Program,
     CutProgram,
     Store { first: usize, count: usize },
-    CutStore { first: usize, count: usize },
+    CutStore,
 }
 
 // The end of PROGRAM in page `number`: `bytes` is ff where nothing was sent.
@@ -88,23 +88,13 @@ pub fn store_page(
     change_page(values, masks, how, number, &bytes);
 }
 
-// An EEPROM write in page `number`, cut by the supply.
-pub fn cut_store_page(
-    values: &mut [u8],
-    masks: &mut [u8],
-    number: usize,
-    first: usize,
-    count: usize,
-)
-    ensures { λ _. ⌜ imageOf (now (values .exit)) (now (masks .exit)) ≡ cutStorePage number first count (imageOf (now (values .entry)) (now (masks .entry))) ⌝ }
+// An EEPROM write in page `number`, cut by the supply: it leaves the whole page in doubt, so which bytes were sent is not asked.
+pub fn cut_store_page(values: &mut [u8], masks: &mut [u8], number: usize)
+    ensures { λ _. ⌜ imageOf (now (values .exit)) (now (masks .exit)) ≡ cutStorePage number (imageOf (now (values .entry)) (now (masks .entry))) ⌝ }
 {
-    let how = Change::CutStore {
-        first: first,
-        count: count,
-    };
     // No data is put in: only the page's length counts.
     let page = [0u8; EEPROM_PAGE];
-    change_page(values, masks, how, number, &page);
+    change_page(values, masks, Change::CutStore, number, &page);
 }
 
 // Was place q of an EEPROM page sent, in the page's own rolling?
@@ -134,13 +124,7 @@ fn changed(how: Change, q: usize, c: Cell, d: u8) -> Cell
                 c
             }
         }
-        Change::CutStore { first, count } => {
-            if sent(first, count, q) {
-                cell::doubtful()
-            } else {
-                c
-            }
-        }
+        Change::CutStore => cell::doubtful(),
     }
 }
 

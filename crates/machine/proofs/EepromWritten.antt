@@ -1,5 +1,5 @@
--- An EEPROM write that the chip has taken (eeprom/proofs/Written), at `end` and at `off`: only the bytes sent change, and a later byte for a place replaces the
--- earlier. Assumes nothing.
+-- An EEPROM write that the chip has taken (eeprom/proofs/Written). At `end` only the bytes sent change, and a later byte for a place replaces the earlier; at `off` the
+-- whole page is in doubt, and no other. Assumes nothing.
 use Prim.Native.Nat.{ℕ, suc, _+_, _-_, _*_, _/_, _%_, _<_}
 use native.Mathlib.Nat.{mod-lt}
 use native.Mathlib.Omega.{arith}
@@ -20,7 +20,7 @@ use Rattle.cell.specs.Rules.{storedCell, doubtfulCell}
 use Rattle.image.specs.Image.{Image, spans, cellAt}
 use Rattle.image.specs.Cycles.{storePage, cutStorePage}
 use Rattle.image.proofs.Reading.{page-off}
-use Rattle.image.proofs.AtPlace.{storePage-at, cutStorePage-at, storePage-unsent, cutStorePage-unsent}
+use Rattle.image.proofs.AtPlace.{storePage-at, cutStorePage-at, storePage-unsent}
 use Rattle.eeprom.specs.Chip as eeprom-chip
 use Rattle.eeprom.proofs.Written as eeprom
 use Rattle.eeprom.proofs.Written.{writeOf, writing, sent-as}
@@ -37,7 +37,7 @@ module _ (a : ℕ) (ds : List ℕ) (i : Image) (k : ℕ) (none : (j : ℕ) → j
         here : a / eepromPage * eepromPage + k % eepromPage ≡ k
         here = omega arith
 
-  -- only the bytes sent change: at `end`, and at `off` ('others unchanged')
+  -- only the bytes sent change
   pub only-stored : cellAt (eepromAfter Whole (writing a ds) i) k ≡ cellAt i k
   unfolding eepromAfter storePage
   only-stored =
@@ -47,13 +47,18 @@ module _ (a : ℕ) (ds : List ℕ) (i : Image) (k : ℕ) (none : (j : ℕ) → j
       (λ p. storePage-unsent (s .page) (s .first) (s .count) bytes i k (not-stored (eqb-true _ _ p)))
       (λ p. page-off eepromPage (s .page) (λ q c. pick (sentPlace eepromPage (s .first) (s .count) q) (storedCell (getD bytes q 0)) c) i k (eqb-false _ _ p))
 
-  pub only-stored-cut : cellAt (eepromAfter Cut (writing a ds) i) k ≡ cellAt i k
+-- cut, whatever was sent from the place a on: each place of a's page is in doubt, and each of another page as it was (request 3/12)
+module _ (a : ℕ) (ds : List ℕ) (i : Image) (k : ℕ) where
+  pub cut-in-page : a < eepromSize → spans eepromSize i ≡ true → k / eepromPage ≡ a / eepromPage → cellAt (eepromAfter Cut (writing a ds) i) k ≡ doubtfulCell
+  unfolding eepromAfter
+  cut-in-page inside fit p =
+      let here : eepromPage * (a / eepromPage) + k % eepromPage ≡ k = omega arith in
+      ap (cellAt (cutStorePage (a / eepromPage) i)) (sym here)
+      ∙ cutStorePage-at i eepromSize fit (a / eepromPage) (omega arith) (k % eepromPage) (omega arith)
+
+  pub cut-elsewhere : k / eepromPage ≢ a / eepromPage → cellAt (eepromAfter Cut (writing a ds) i) k ≡ cellAt i k
   unfolding eepromAfter cutStorePage
-  only-stored-cut =
-      let s = writeOf a (length ds) in
-      split (eqb (k / eepromPage) (a / eepromPage))
-      (λ p. cutStorePage-unsent (s .page) (s .first) (s .count) (roll eepromPage (a % eepromPage) ds eeprom-chip.blank) i k (not-stored (eqb-true _ _ p)))
-      (λ p. page-off eepromPage (s .page) (λ q c. pick (sentPlace eepromPage (s .first) (s .count) q) doubtfulCell c) i k (eqb-false _ _ p))
+  cut-elsewhere n = page-off eepromPage (a / eepromPage) (λ q c. doubtfulCell) i k n
 
 -- 'a later byte for a place replaces the earlier'
 module _ (a : ℕ) (inside : a < eepromSize) (before : List ℕ) (d : ℕ) (later : List ℕ)
@@ -85,12 +90,3 @@ module _ (a : ℕ) (inside : a < eepromSize) (before : List ℕ) (d : ℕ) (late
       ap (cellAt (storePage (s .page) (s .first) (s .count) bytes i)) (sym its-place)
       ∙ storePage-at i eepromSize fit (s .page) (s .first) (s .count) bytes (omega arith) at small its-sent
       ∙ ap storedCell its-byte
-
-  -- cut, the places sent are in doubt
-  pub sent-doubtful : cellAt (eepromAfter Cut (writing a (before ++ (d ∷ later))) i) (placeAfter eepromPage a (length before)) ≡ doubtfulCell
-  unfolding eepromAfter
-  sent-doubtful =
-      let s = writeOf a (length (before ++ (d ∷ later))) in
-      let bytes = roll eepromPage (a % eepromPage) (before ++ (d ∷ later)) eeprom-chip.blank in
-      ap (cellAt (cutStorePage (s .page) (s .first) (s .count) i)) (sym its-place)
-      ∙ cutStorePage-at i eepromSize fit (s .page) (s .first) (s .count) bytes (omega arith) at small its-sent

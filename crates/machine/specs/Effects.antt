@@ -87,7 +87,7 @@ eepromBy stored (eeprom-cycle.Write s) i = stored s i
 unfoldable pub eepromAfter : Stroke → Eeprom → Image → Image
 eepromAfter Nothing e i = i
 eepromAfter Whole e i = eepromBy (λ s. storePage (s .page) (s .first) (s .count) (e .page)) (e .cycle) i
-eepromAfter Cut e i = eepromBy (λ s. cutStorePage (s .page) (s .first) (s .count)) (e .cycle) i
+eepromAfter Cut e i = eepromBy (λ s. cutStorePage (s .page)) (e .cycle) i
 
 -- what a record makes of the images, by its event and its reply, with these controls before it: each chip's image by its own stroke
 abbrev pub imagesAfter : Board → Controls → Event → Skeleton → Images → Images

@@ -211,13 +211,7 @@ fn eeprom_cut(values: &mut [u8], masks: &mut [u8], chip: Eeprom)
             return;
         }
         EepromCycle::Write(s) => {
-            image::cut_store_page(
-                values,
-                masks,
-                s.page as usize,
-                s.first as usize,
-                s.count as usize,
-            );
+            image::cut_store_page(values, masks, s.page as usize);
             return;
         }
     }

@@ -1,8 +1,9 @@
-//! The EEPROM ("EEPROM rules", "Supply").
+//! The EEPROM ("EEPROM rules", "Supply" with request 3/12).
 
 use crate::image::{Image, KEPT};
 use crate::orders::Chip;
 use crate::record::{EepromEvent, LineEvent, Lines, Reply};
+use std::ops::Range;
 
 const PAGE: u16 = 64;
 const PLACES: u16 = KEPT as u16;
@@ -49,6 +50,14 @@ pub struct Eeprom {
     /// None where it is lost.
     counter: Option<u16>,
     pub image: Image,
+}
+
+impl Cycle {
+    /// The places of its page in the image.
+    fn places(&self) -> Range<usize> {
+        let first = usize::from(self.page * PAGE);
+        first..first + usize::from(PAGE)
+    }
 }
 
 impl Chip for Eeprom {
@@ -143,7 +152,7 @@ impl Eeprom {
         match self.cycle.take() {
             None => Reply::NoCycle,
             Some(cycle) => {
-                self.change_page(&cycle, |sent| (sent, 0x00));
+                self.store(&cycle);
                 Reply::Ends
             }
         }
@@ -151,7 +160,10 @@ impl Eeprom {
 
     fn lose_supply(&mut self) {
         if let Some(cycle) = self.cycle.take() {
-            self.change_page(&cycle, |_| (0x00, 0xff));
+            // The whole page, whatever was sent of it (request 3/12).
+            let page = cycle.places();
+            self.image.values[page.clone()].fill(0x00);
+            self.image.masks[page].fill(0xff);
         }
         self.counter = None;
         if self.frame != Frame::Idle {
@@ -159,13 +171,12 @@ impl Eeprom {
         }
     }
 
-    fn change_page(&mut self, cycle: &Cycle, change: impl Fn(u8) -> (u8, u8)) {
-        let first = usize::from(cycle.page * PAGE);
-        for (offset, &sent) in cycle.data.bytes.iter().enumerate() {
+    /// The bytes sent, and no others.
+    fn store(&mut self, cycle: &Cycle) {
+        for (offset, place) in cycle.places().enumerate() {
             if cycle.data.sent >> offset & 1 == 1 {
-                let (value, mask) = change(sent);
-                self.image.values[first + offset] = value;
-                self.image.masks[first + offset] = mask;
+                self.image.values[place] = cycle.data.bytes[offset];
+                self.image.masks[place] = 0x00;
             }
         }
     }

@@ -2,6 +2,7 @@
 
 use crate::driver::{Answer, Driver};
 use crate::fixed::{self, Start};
+use crate::generate::cut_pages::cut_pages;
 use crate::generate::kinds::{self, Kind};
 use crate::generate::prepared::prepared;
 use crate::generate::random::Random;
@@ -24,11 +25,12 @@ pub struct Plan {
 }
 
 /// Generated groups: a name, how many of a thousand cases, and how to make one.
-const GENERATED: [(&str, usize, Kind); 12] = [
+const GENERATED: [(&str, usize, Kind); 13] = [
     ("sessions", 140, kinds::session),
     ("tied sessions", 100, kinds::tied_session),
     ("tied stamps", 140, kinds::probe),
     ("ties in prepared states", 220, prepared),
+    ("cut page writes", 40, cut_pages),
     ("stamps at the limits", 60, kinds::limit),
     ("damaged lines", 140, kinds::damaged),
     ("changed bytes", 70, kinds::mutated),

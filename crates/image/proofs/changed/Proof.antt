@@ -24,11 +24,8 @@ sent-requires c κs = search needs
 stored-requires : tie.Need-stored-requires
 stored-requires c κs = search needs
 
-enum-known-how-2 : tie.Need-enum-known-how-2
-enum-known-how-2 c = search needs
-
-sent-requires-2 : tie.Need-sent-requires-2
-sent-requires-2 c κs = search needs
+enum-told-3 : tie.Need-enum-told-3
+enum-told-3 c = search needs
 
 doubtful-requires : tie.Need-doubtful-requires
 doubtful-requires c κs = search needs
@@ -46,10 +43,7 @@ returns-4 : tie.Need-returns-4
 returns-4 c = simp (c .before .before .before .how .given .1, via (c .before .sent .ensures) (c .if1 .left))
 
 returns-5 : tie.Need-returns-5
-returns-5 c = simp (c .before .before .before .before .how2 .given .1, via (c .before .before .sent2 .ensures) (c .before .if2 .taken), c .doubtful .ensures)
-
-returns-6 : tie.Need-returns-6
-returns-6 c = simp (c .before .before .before .how2 .given .1, via (c .before .sent2 .ensures) (c .if2 .left))
+returns-5 c = simp (c .before .enum-told3 .given .1, c .doubtful .ensures)
 
 pub changed-spec : {M : Type 1} → statement M
 changed-spec =
@@ -62,12 +56,10 @@ changed-spec =
     enum-known-how
     sent-requires
     stored-requires
-    enum-known-how-2
-    sent-requires-2
+    enum-told-3
     doubtful-requires
     returns
     returns-2
     returns-3
     returns-4
-    returns-5
-    returns-6)
+    returns-5)

@@ -1,6 +1,6 @@
 //! The EEPROM by itself.
 
-use super::script::{script, Changed, Script, Start};
+use super::script::{doubtful_page, script, Changed, Script, Start};
 use super::Fixed;
 
 pub fn cases() -> Vec<Fixed> {
@@ -200,10 +200,10 @@ fn lock_and_supply() -> Vec<Fixed> {
             .eeprom_is(&WRITTEN)
             .settled(0),
         eeprom("the lock does not hinder a read").add("5 L lock").random_read(10, "00 05", "05/00").settled(0),
-        started("off in a cycle: the bytes sent are doubtful")
+        started("off in a cycle: the whole page is doubtful")
             .add("20 L off | 30 E end > idle . | 40 L on | 50 E sta | 50 E b a0 0 > ack = | 60 E sto")
-            .random_read(70, "00 0f", "0f/00 00/ff 11/00")
-            .eeprom_is(&[(0x10, 0x00, 0xff)])
+            .random_read(70, "00 0f", "00/ff 00/ff 00/ff")
+            .eeprom_is(&doubtful_page(0))
             .settled(0),
         eeprom("off loses the counter")
             .random_read(10, "00 05", "05/00")

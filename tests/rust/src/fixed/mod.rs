@@ -2,6 +2,7 @@
 
 mod bench_sheet;
 mod buffers;
+mod cut_pages;
 mod eeprom_cases;
 mod flash_cases;
 mod forms;
@@ -25,6 +26,7 @@ pub fn all() -> Vec<Fixed> {
     cases.extend(forms::cases());
     cases.extend(flash_cases::cases());
     cases.extend(eeprom_cases::cases());
+    cases.extend(cut_pages::cases());
     cases.extend(ties::cases());
     cases.extend(buffers::cases());
     cases

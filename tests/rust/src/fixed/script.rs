@@ -202,6 +202,11 @@ pub fn everywhere(value: u8, mask: u8) -> Vec<Changed> {
     (0..KEPT).map(|place| (place, value, mask)).collect()
 }
 
+/// The EEPROM's page from `first` on, with nothing sure.
+pub fn doubtful_page(first: usize) -> Vec<Changed> {
+    (first..first + 64).map(|place| (place, 0x00, 0xff)).collect()
+}
+
 const SILENT: [u8; 4] = [1, 0, 0, 0];
 
 fn read_record(before: &str, after: &str, reply: &str) -> String {

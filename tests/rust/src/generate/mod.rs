@@ -1,6 +1,7 @@
 //! Seeded traces and calls: what a bench logger would write, ties, damage, and bytes that mean nothing.
 
 pub mod author;
+pub mod cut_pages;
 pub mod damage;
 pub mod dumps;
 pub mod eeprom_frames;

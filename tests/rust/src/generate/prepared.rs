@@ -136,7 +136,8 @@ fn some_lines(author: &mut Author, choices: &[LineEvent]) {
     }
 }
 
-fn alone(author: &mut Author, event: Event) {
+/// One event at a stamp of its own.
+pub fn alone(author: &mut Author, event: Event) {
     author.add(event);
     author.next_stamp();
 }

@@ -1,4 +1,4 @@
-//! The EEPROM ("EEPROM rules", "Supply").
+//! The EEPROM ("EEPROM rules", "Supply" with request 3/12).
 
 use super::kept::{rolled, Kept};
 use super::lines::Lines;
@@ -138,7 +138,7 @@ impl Eeprom {
     fn end(&mut self) -> Reply {
         match self.cycle.take() {
             Some(cycle) => {
-                self.change_page(&cycle, |sent| (sent, 0x00));
+                self.store(&cycle);
                 Reply::Ends
             }
             None => Reply::NoCycle,
@@ -147,7 +147,7 @@ impl Eeprom {
 
     fn lose_supply(&mut self) {
         if let Some(cycle) = self.cycle.take() {
-            self.change_page(&cycle, |_| (0x00, 0xff));
+            self.doubt_page(cycle.page);
         }
         self.counter = None;
         if self.frame != Frame::Idle {
@@ -155,13 +155,20 @@ impl Eeprom {
         }
     }
 
-    fn change_page(&mut self, cycle: &Cycle, change: fn(u8) -> (u8, u8)) {
+    fn store(&mut self, cycle: &Cycle) {
         let first = usize::from(cycle.page * PAGE);
         for (offset, sent) in cycle.data.iter().enumerate() {
             if let Some(sent) = *sent {
-                let (value, mask) = change(sent);
-                self.kept.set(first + offset, value, mask);
+                self.kept.set(first + offset, sent, 0x00);
             }
+        }
+    }
+
+    /// A cut cycle: the whole page, bytes that were not sent too (request 3/12; "Supply" has the bytes sent alone).
+    fn doubt_page(&mut self, page: u16) {
+        let first = usize::from(page * PAGE);
+        for place in first..first + usize::from(PAGE) {
+            self.kept.set(place, 0x00, 0xff);
         }
     }
 }

@@ -1,13 +1,15 @@
 //! The model by itself: hand-written outcomes, the listing, and the two ways to try orders against each other.
 
 use super::call::Call;
+use super::eeprom::Eeprom;
 use super::kept::{rolled, Kept};
 use super::listing::{listing, Files};
 use super::record::{Event, Record};
-use super::replay::{replay, stamps, Ending};
-use super::stamp::Orders;
+use super::replay::{replay, stamps, start, Ending};
+use super::stamp::{judge, Orders, Verdict};
 use super::text::{read, Refusal, TEXT_MOST};
 use crate::fixed;
+use crate::generate::cut_pages::cut_pages;
 use crate::generate::kinds::{self, Kind};
 use crate::generate::prepared::prepared;
 use crate::generate::random::Random;
@@ -128,6 +130,39 @@ fn refused_texts_leave_all_but_the_result() {
             assert!(Call { result: call.result.clone(), ..after } == call);
         }
     }
+}
+
+/// Whether a byte that the running cycle was not sent had a sure bit before a stamp and has none after it.
+fn doubts_unsent(before: &Eeprom, after: &Eeprom) -> bool {
+    let doubted = |place: usize| before.kept.mask[place] != 0xff && after.kept.mask[place] == 0xff;
+    before.cycle.iter().any(|cycle| {
+        let places = usize::from(cycle.page) * 64..;
+        cycle.data.iter().zip(places).any(|(sent, place)| sent.is_none() && doubted(place))
+    })
+}
+
+/// Whether an `off` that is played cuts a write in a page with sure bytes that were not sent.
+fn cuts_sure_bytes(call: &Call) -> bool {
+    let trace = read(&call.text).unwrap();
+    let flash = Kept { value: call.flash.clone(), mask: call.flash_mask.clone() };
+    let eeprom = Kept { value: call.eeprom.clone(), mask: call.eeprom_mask.clone() };
+    let mut board = start(trace.board, flash, eeprom);
+    for records in stamps(&trace.records) {
+        match judge(&board, records, Orders::EachBusWithLines) {
+            Verdict::Settled(after, _) if doubts_unsent(&board.eeprom, &after.eeprom) => return true,
+            Verdict::Settled(after, _) => board = *after,
+            _ => return false,
+        }
+    }
+    false
+}
+
+/// The rule of request 3/12 is met often enough for a wrong one to be seen.
+#[test]
+fn generated_writes_are_cut() {
+    let mut random = Random::seeded(25);
+    let cut = (0..100).filter(|&number| cuts_sure_bytes(&cut_pages(&mut random, number))).count();
+    assert!(cut > 50, "{}", cut);
 }
 
 fn replayed(text: &[u8]) -> Ending {

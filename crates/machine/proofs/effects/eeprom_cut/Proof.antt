@@ -16,12 +16,6 @@ enum-known-cycle c = search needs
 cast-cut-store-page : tie.Need-cast-cut-store-page
 cast-cut-store-page c = search needs
 
-cast-cut-store-page-2 : tie.Need-cast-cut-store-page-2
-cast-cut-store-page-2 c = search needs
-
-cast-cut-store-page-3 : tie.Need-cast-cut-store-page-3
-cast-cut-store-page-3 c = search needs
-
 cut-store-page-requires : tie.Need-cut-store-page-requires
 cut-store-page-requires c κs = search needs
 
@@ -33,7 +27,7 @@ same-length-2 c = search needs
 
 returns-2 : tie.Need-returns-2
 unfolding eepromAfter
-returns-2 c = simp (c .before .before .before .before .before .before .before .before .before .before .before .cycle .given .1, c .before .before .before .before .cut-store-page .ensures)
+returns-2 c = simp (c .before .before .before .before .before .before .before .before .before .cycle .given .1, c .before .before .before .before .cut-store-page .ensures)
 
 pub eeprom-cut-spec : {M : Type 1} → statement M
 eeprom-cut-spec =
@@ -43,8 +37,6 @@ eeprom-cut-spec =
     returns
     enum-known-cycle
     cast-cut-store-page
-    cast-cut-store-page-2
-    cast-cut-store-page-3
     cut-store-page-requires
     same-length
     same-length-2
