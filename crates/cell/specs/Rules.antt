@@ -1,4 +1,4 @@
--- Believed: What the end of a cycle, and a cut of it, make of one kept byte: value v, mask m, data d (document 01).
+-- Believed: What the end of a cycle, and a cut of it, make of one kept byte: value v, mask m, data d (document 01; request 3/12).
 use Prim.Native.Nat.{ℕ, _-_}
 use mathlib.Core.Bool.{Bool}
 use mathlib.Core.Path.{_≡_}
@@ -14,7 +14,7 @@ not8 x = 255 - x
 abbrev pub erasedCell : Cell
 erasedCell = record { value = 255; mask = 0 }
 
--- 'Supply': an erased sector, and the EEPROM bytes sent, 00/ff
+-- 'Supply': an erased sector 00/ff; request 3/12: the page of a cut EEPROM cycle, 00/ff
 abbrev pub doubtfulCell : Cell
 doubtfulCell = record { value = 0; mask = 255 }
 

@@ -129,11 +129,11 @@ GoesOn x =
 
 -- ---- request 3/12: 'a cut EEPROM cycle puts the whole page in doubt, 00/ff, not only the bytes sent'
 -- one byte, 11, is written to 007f, the last place of its page, and the supply goes off in the cycle
-abbrev pub written : List Record
-written = addressed (0xa0 ∷ (two 0x007f ++ (0x11 ∷ []))) ++ (onE 0 eeprom.Stop ∷ [])
+abbrev pub pageStarted : List Record
+pageStarted = addressed (0xa0 ∷ (two 0x007f ++ (0x11 ∷ []))) ++ (onE 0 eeprom.Stop ∷ [])
 
 abbrev pub pageCut : List Record
-pageCut = written ++ (onL 10 SupplyOff ∷ [])
+pageCut = pageStarted ++ (onL 10 SupplyOff ∷ [])
 
 -- 0040 to 007f are 00/ff, and every place before and behind them is as it was
 abbrev pub PageInDoubt : Images → Type 0
@@ -143,12 +143,15 @@ PageInDoubt x =
     × ((k : ℕ) → k < 0x0040 → eepromAt pageCut x k ≡ cellAt (x .eeprom) k)
     × ((k : ℕ) → 0x007f < k → eepromAt pageCut x k ≡ cellAt (x .eeprom) k)
 
--- then 22 is written to 0041, to its `end`: 0041 is 22/00, and the page's other places, 007f too, stay 00/ff
+-- the same, and then 22 is written to 0041, to its `end`: 0041 is 22/00, and the page's other places, 007f too, stay 00/ff
+abbrev pub pageRewritten : List Record
+pageRewritten = pageStarted ++ (onL 0 SupplyOff ∷ onL 0 SupplyOn ∷ stored 0x0041 (0x22 ∷ []))
+
 abbrev pub InPartRewritten : Images → Type 0
 InPartRewritten x =
     Kept x →
-    (eepromAt (pageCut ++ (onL 10 SupplyOn ∷ stored 0x0041 (0x22 ∷ []))) x 0x0041 ≡ cell 0x22 0x00)
-    × ((k : ℕ) → 0x0040 ≤ k → k ≤ 0x007f → k ≢ 0x0041 → eepromAt (pageCut ++ (onL 10 SupplyOn ∷ stored 0x0041 (0x22 ∷ []))) x k ≡ cell 0x00 0xff)
+    (eepromAt pageRewritten x 0x0041 ≡ cell 0x22 0x00)
+    × ((k : ℕ) → 0x0040 ≤ k → k ≤ 0x007f → k ≢ 0x0041 → eepromAt pageRewritten x k ≡ cell 0x00 0xff)
 
 -- ---- 'Replies and stopping': 'Kinds 2 (unless the mask is ff), 3 and 4 are compared'; 'Bytes and doubt': 'A read is compared on its sure bits only'
 -- READ of 00000, with the byte that was recorded

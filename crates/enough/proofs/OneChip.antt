@@ -123,7 +123,7 @@ module _ {b : Board} {c : Channel} {C Run Told : Type 0} {X : Control C Record R
         (sym (hears (onMachine b) c _ _ _ _ (Z .whole) o m) ∙ h ∙ hears (onMachine b) c _ _ _ _ (Z .whole) q m)
         ∙ sym (hears (onControls b) c _ _ _ _ (Z .controls) q (m .controls))
 
-    -- and where its skeletons and its last control are the same, so are its image and what it says
+    -- and where its skeletons are the same, so is what it says; with its last control, so is its image
     module _ (h : replies (onControls b) c o (m .controls) ≡ replies (onControls b) c q (m .controls)) where
       abbrev skeletonsOf : List Record → List Skeleton
       skeletonsOf l = Orders.replies (X .bus) (X .skel) (X .line) (ordered (onMachine b) c l) (side (m .controls))

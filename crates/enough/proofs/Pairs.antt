@@ -4,25 +4,22 @@ use mathlib.Core.Bool.{true}
 use mathlib.Core.Logic.{_↔_}
 use mathlib.Core.List.{List, [], _∷_}
 use Prim.Native.Nat.{ℕ}
-use Rattle.law.specs.Choice.{true-not-false}
 use Rattle.law.specs.Words.{All}
-use Rattle.meaning.specs.Meaning.{Channel, F, E, L, same, Outcome, Reason, of, Allowed, after, replies, outcome, Passes, Earliest}
+use Rattle.meaning.specs.Meaning.{Channel, F, E, L, same, Outcome, Reason, of, Allowed, after, outcome, Passes, Earliest}
 use Rattle.meaning.proofs.Channels.{same-outcome}
 use Rattle.meaning.proofs.Chips.{lines-agree}
 use Rattle.meaning.proofs.TwoMachines as two
 use Rattle.record.specs.declared.Board.{Board}
 use Rattle.record.specs.declared.Record.{Record}
-use Rattle.record.specs.declared.Event.{Event}
-use Rattle.record.specs.declared.Event.the-variants as event
 use Rattle.record.specs.declared.Reply.{Reply}
 use Rattle.record.specs.declared.Skeleton.{Skeleton}
 use Rattle.controls.specs.declared.Controls.{Controls}
 use Rattle.controls.specs.Sides.{flashSide, eepromSide}
-use Rattle.controls.specs.Play.{movedOf, eventMoved, lostOf}
+use Rattle.controls.specs.Play.{movedOf, lostOf}
 use Rattle.machine.specs.Machine.{Machine, playOn, channelOf, onMachine, onControls}
 use Rattle.enough.specs.Enough.{Good}
 use Rattle.enough.proofs.OneChip.{told-alike, said-alike, seen-alike}
-use Rattle.enough.proofs.Whole.{seen-all, flash-chip, eeprom-chip, quiet}
+use Rattle.enough.proofs.Whole.{seen-all, flash-chip, eeprom-chip, line-silent, quiet}
 
 module _ (b : Board) where
   -- the controls go their way whatever the images hold
@@ -31,23 +28,15 @@ module _ (b : Board) where
   controls-only [] m = refl
   controls-only (r ∷ o) m = controls-only o (playOn b m r)
 
-  -- a line's skeleton goes by no state
-  quiet-by : (v : Event) (c d : Controls) → same L (channelOf v) ≡ true → eventMoved b c v .reply ≡ eventMoved b d v .reply
-  quiet-by (event.Flash e) c d i = absurd (true-not-false (sym i))
-  quiet-by (event.Eeprom e) c d i = absurd (true-not-false (sym i))
-  quiet-by (event.Line e) c d i = refl
-
+  -- the lines say nothing
   quiet-skeletons : (c d : Controls) (r : Record) → same L (channelOf (r .event)) ≡ true → movedOf b c r .reply ≡ movedOf b d r .reply
   unfolding movedOf
-  quiet-skeletons c d r i = quiet-by (r .event) c d i
+  quiet-skeletons c d r i = line-silent b (r .event) c i ∙ sym (line-silent b (r .event) d i)
 
   module _ (m : Machine) (good : Good (m .controls)) where
     module _ (rs o q : List Record) (x : Allowed (onMachine b) rs o) (y : Allowed (onMachine b) rs q) where
       records : (c : Channel) → of (onMachine b) c o ≡ of (onMachine b) c q
       records c = x .keeps c ∙ sym (y .keeps c)
-
-      on-controls : {l : List Record} → Allowed (onMachine b) rs l → Allowed (onControls b) rs l
-      on-controls a = record { keeps = a .keeps; onward = a .onward }
 
       from-machine : outcome (onMachine b) o m ≡ outcome (onMachine b) q m → outcome (onControls b) o (m .controls) ≡ outcome (onControls b) q (m .controls)
       unfolding All
@@ -56,7 +45,7 @@ module _ (b : Board) where
             told-alike (flash-chip b) o q (records F) m (good .flash) (ap (λ (v : Outcome Machine Reply). v .replies F) h),
             (
               told-alike (eeprom-chip b) o q (records E) m (good .eeprom) (ap (λ (v : Outcome Machine Reply). v .replies E) h),
-              (lines-agree (onControls b) quiet-skeletons rs (m .controls) o q (on-controls x) (on-controls y), tt),
+              (lines-agree (onControls b) quiet-skeletons rs (m .controls) o q (two.allowed (onMachine b) _ _ _ m (m .controls) .0 x) (two.allowed (onMachine b) _ _ _ m (m .controls) .0 y), tt),
             ),
           )
 

@@ -1,5 +1,5 @@
 -- The machine as each chip sees it: the chip, the two lines and the chip's image.
-use mathlib.Core.Path.{_≡_, refl, sym}
+use mathlib.Core.Path.{_≡_, refl, sym, ap, _∙_}
 use mathlib.Core.Bool.{true}
 use Prim.Native.Nat.{ℕ}
 use Rattle.law.specs.Choice.{true-not-false}
@@ -11,6 +11,8 @@ use Rattle.record.specs.declared.Board.{Board}
 use Rattle.record.specs.declared.Record.{Record}
 use Rattle.record.specs.declared.Event.{Event}
 use Rattle.record.specs.declared.Event.the-variants as event
+use Rattle.record.specs.declared.Skeleton.the-variants.{Silent}
+use Rattle.controls.specs.declared.Controls.{Controls}
 use Rattle.controls.specs.Play.{movedOf, eventMoved}
 use Rattle.flash.specs.Side as flash-side
 use Rattle.eeprom.specs.Side as eeprom-side
@@ -77,15 +79,16 @@ module _ (b : Board) where
   eeprom-whole = record { apart = refl; plays = λ m r. eeprom-row (r .event) (r .stamp) m .0; says = λ m r. eeprom-row (r .event) (r .stamp) m .1 }
 
   -- ---- the lines say nothing
-  quiet-by : (v : Event) (m n : Machine) → same L (channelOf v) ≡ true → delivered (imageFor v (m .images)) (eventMoved b (m .controls) v .reply) ≡ delivered (imageFor v (n .images)) (eventMoved b (n .controls) v .reply)
-  unfolding delivered
-  quiet-by (event.Flash e) m n i = absurd (true-not-false (sym i))
-  quiet-by (event.Eeprom e) m n i = absurd (true-not-false (sym i))
-  quiet-by (event.Line e) m n i = refl
+  pub line-silent : (v : Event) (c : Controls) → same L (channelOf v) ≡ true → eventMoved b c v .reply ≡ Silent
+  line-silent (event.Flash e) c i = absurd (true-not-false (sym i))
+  line-silent (event.Eeprom e) c i = absurd (true-not-false (sym i))
+  line-silent (event.Line e) c i = refl
 
   pub quiet : (m n : Machine) (r : Record) → same L (channelOf (r .event)) ≡ true → saysOn b m r ≡ saysOn b n r
-  unfolding saysOn movedOf
-  quiet m n r i = quiet-by (r .event) m n i
+  unfolding saysOn movedOf delivered
+  quiet m n r i =
+      ap (delivered (imageFor (r .event) (m .images))) (line-silent (r .event) (m .controls) i)
+      ∙ sym (ap (delivered (imageFor (r .event) (n .images))) (line-silent (r .event) (n .controls) i))
 
   -- ---- each chip decides by its control
   pub flash-chip : OneChip b F (flashOver b) (flashEffects b) flashSide (λ m. m .images .flash) (flashRest b)

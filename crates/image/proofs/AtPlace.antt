@@ -1,4 +1,5 @@
--- What stands at a place after a cycle that ended or was cut, and that only the places sent change. Assumes nothing.
+-- What stands at a place after a cycle that ended or was cut; that only the places sent change, but for a cut EEPROM write, which reaches its whole page. Assumes
+-- nothing.
 use mathlib.Core.Path.{_≡_, ap, ap₂, _∙_}
 use mathlib.Core.Bool.{true, false}
 use mathlib.Core.List.{List}

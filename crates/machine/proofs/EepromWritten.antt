@@ -1,6 +1,6 @@
 -- An EEPROM write that the chip has taken (eeprom/proofs/Written). At `end` only the bytes sent change, and a later byte for a place replaces the earlier; at `off` the
 -- whole page is in doubt, and no other. Assumes nothing.
-use Prim.Native.Nat.{ℕ, suc, _+_, _-_, _*_, _/_, _%_, _<_}
+use Prim.Native.Nat.{ℕ, suc, _+_, _*_, _/_, _%_, _<_}
 use native.Mathlib.Nat.{mod-lt}
 use native.Mathlib.Omega.{arith}
 use mathlib.Core.Bool.{true, false}

@@ -1,4 +1,4 @@
--- Believed: What the cycles do to the images, whole at `end` and cut by `off` (document 01, 'Flash rules', 'EEPROM rules', 'Supply').
+-- Believed: What the cycles do to the images, whole at `end` and cut by `off` (document 01, 'Flash rules', 'EEPROM rules', 'Supply'; request 3/12).
 use Prim.Native.Nat.{ℕ, _+_, _/_, _%_}
 use mathlib.Core.Bool.{Bool, true, not}
 use mathlib.Core.List.{List}

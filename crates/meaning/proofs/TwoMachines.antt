@@ -7,15 +7,12 @@ use mathlib.Core.List.{List}
 use Prim.Native.Nat.{ℕ}
 use Rattle.meaning.specs.Meaning.{Rules, Reason, crowded, differ, lost, Allowed, after, outcome, upto, Alike, Crowded, Differ, Lost, Holds, FirstReason, Passes, Earliest}
 
--- the second machine has the first one's channels and stamps
-abbrev pub beside : {A S R T K : Type 0} → Rules A S R → (T → A → T) → (T → A → K) → (T → Bool) → Rules A T K
-beside m play says gone = record { channel = m .channel; stamp = m .stamp; play = play; says = says; lost = gone }
-
 module _ {A S R T K : Type 0} (m : Rules A S R) (play : T → A → T) (says : T → A → K) (gone : T → Bool) (s : S) (w : T) where
+  -- the second machine has the first one's channels and stamps
   abbrev n : Rules A T K
-  n = beside m play says gone
+  n = record { channel = m .channel; stamp = m .stamp; play = play; says = says; lost = gone }
 
-  allowed : {rs o : List A} → Allowed m rs o ↔ Allowed n rs o
+  pub allowed : {rs o : List A} → Allowed m rs o ↔ Allowed n rs o
   allowed = ((λ a. record { keeps = a .keeps; onward = a .onward }), λ a. record { keeps = a .keeps; onward = a .onward })
 
   module _ (pairs : (rs o q : List A) → Allowed m rs o → Allowed m rs q → (outcome m o s ≡ outcome m q s) ↔ (outcome n o w ≡ outcome n q w))

@@ -1,6 +1,6 @@
-//! The replay of document 01 in plain Rust, to be measured beside the proved one: the text is read once into records, then
-//! each order of a stamp is tried from a fresh copy of the chip with its image. It is written from the document and shares
-//! nothing with the proved code.
+//! The replay of document 01 with request 3/12 in plain Rust, to be measured beside the proved one: the text is read once
+//! into records, then each order of a stamp is tried from a fresh copy of the chip with its image. It is written from the
+//! documents and shares nothing with the proved code.
 
 mod eeprom;
 mod flash;

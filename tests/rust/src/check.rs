@@ -24,7 +24,7 @@ pub struct Plan {
     pub seed: u64,
 }
 
-/// Generated groups: a name, how many of a thousand cases, and how to make one.
+/// Generated groups: a name, how many cases for each thousand of the plan, and how to make one.
 const GENERATED: [(&str, usize, Kind); 13] = [
     ("sessions", 140, kinds::session),
     ("tied sessions", 100, kinds::tied_session),

@@ -42,51 +42,29 @@ fn bytes(count: u8) -> String {
     bytes.join(" ")
 }
 
-/// One byte sent, at the ends of pages and of the chip. Place 7fbf holds 49, 7fff 89, and 0000 a sure 00.
+/// One byte sent and its cycle cut; a read over each border of the page, which is in doubt from `first` on.
+fn one_byte(name: &str, sent: &str, before: [&str; 2], behind: [&str; 2], first: usize) -> Fixed {
+    page(name)
+        .write(10, sent, "starts .")
+        .add("20 L off | 30 L on")
+        .random_read(40, before[0], before[1])
+        .random_read(50, behind[0], behind[1])
+        .eeprom_is(&doubtful_page(first))
+        .settled(0)
+}
+
+/// The ends of pages and of the chip. Place 7fbf holds 49, 7fff 89, and 0000 a sure 00.
 fn places() -> Vec<Fixed> {
+    let (before, behind) = (["00 3f", "3f/00 00/ff"], ["00 7f", "00/ff 80/00"]);
+    let (before_last, behind_last) = (["7f bf", "49/00 00/ff"], ["7f ff", "00/ff 00/00 01/00"]);
+    let (before_first, behind_first) = (["7f ff", "89/00 00/ff"], ["00 3f", "00/ff 40/00"]);
     vec![
-        page("the page's last place")
-            .write(10, "a0 00 7f 55", "starts .")
-            .add("20 L off | 30 L on")
-            .random_read(40, "00 3f", "3f/00 00/ff")
-            .random_read(50, "00 7f", "00/ff 80/00")
-            .eeprom_is(&doubtful_page(0x40))
-            .settled(0),
-        page("the page's first place")
-            .write(10, "a0 00 40 55", "starts .")
-            .add("20 L off | 30 L on")
-            .random_read(40, "00 3f", "3f/00 00/ff")
-            .random_read(50, "00 7f", "00/ff 80/00")
-            .eeprom_is(&doubtful_page(0x40))
-            .settled(0),
-        page("the chip's last place")
-            .write(10, "a0 7f ff 55", "starts .")
-            .add("20 L off | 30 L on")
-            .random_read(40, "7f bf", "49/00 00/ff")
-            .random_read(50, "7f ff", "00/ff 00/00 01/00")
-            .eeprom_is(&doubtful_page(0x7fc0))
-            .settled(0),
-        page("the first place of the chip's last page")
-            .write(10, "a0 7f c0 55", "starts .")
-            .add("20 L off | 30 L on")
-            .random_read(40, "7f bf", "49/00 00/ff")
-            .random_read(50, "7f ff", "00/ff 00/00 01/00")
-            .eeprom_is(&doubtful_page(0x7fc0))
-            .settled(0),
-        page("the chip's first place")
-            .write(10, "a0 00 00 55", "starts .")
-            .add("20 L off | 30 L on")
-            .random_read(40, "7f ff", "89/00 00/ff")
-            .random_read(50, "00 3f", "00/ff 40/00")
-            .eeprom_is(&doubtful_page(0))
-            .settled(0),
-        page("the last place of the chip's first page")
-            .write(10, "a0 00 3f 55", "starts .")
-            .add("20 L off | 30 L on")
-            .random_read(40, "7f ff", "89/00 00/ff")
-            .random_read(50, "00 3f", "00/ff 40/00")
-            .eeprom_is(&doubtful_page(0))
-            .settled(0),
+        one_byte("the page's last place", "a0 00 7f 55", before, behind, 0x40),
+        one_byte("the page's first place", "a0 00 40 55", before, behind, 0x40),
+        one_byte("the chip's last place", "a0 7f ff 55", before_last, behind_last, 0x7fc0),
+        one_byte("the first place of the chip's last page", "a0 7f c0 55", before_last, behind_last, 0x7fc0),
+        one_byte("the chip's first place", "a0 00 00 55", before_first, behind_first, 0),
+        one_byte("the last place of the chip's first page", "a0 00 3f 55", before_first, behind_first, 0),
         page("the top address bit is ignored")
             .write(10, "a0 ff e0 55", "starts .")
             .add("20 L off")
