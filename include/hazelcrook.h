@@ -16,7 +16,7 @@ extern "C" {
 /* Lengths, in bytes. */
 #define HAZELCROOK_IMAGE 32768   /* an image, and its mask */
 #define HAZELCROOK_REPLIES 40000 /* four for each record */
-#define HAZELCROOK_RESULT 12
+#define HAZELCROOK_RESULT 16
 #define HAZELCROOK_TEXT 65536 /* the longest text */
 
 /* Answers. */
@@ -50,9 +50,13 @@ enum {
  * eeprom_mask: a 1 for each doubtful bit, which is 0 in the value. With no
  * dump: all values 00, all masks ff; a dump is sure: masks 00.
  *
- * result: the answer, the line (answers 3, 4, 5) or the stamp (6, 7, 8), and
- * the count of replies that disagree; four bytes each, low byte first. With a
- * result that is not 12 bytes the answer is 1 and nothing is written anywhere.
+ * result: the answer, the line (answers 3, 4, 5) or the stamp (6, 7, 8), the
+ * count of replies that disagree, and the field (answer 3; else 0); four bytes
+ * each, low byte first. Fields are what tabs part, up to the line's LF or the
+ * text's end, and count from 1. The field is the first that is wrong where it
+ * stands, or one too many; with none such, one past the last that is there: a
+ * field or the LF is missing. No text is line 1, field 1. With a result that
+ * is not 16 bytes the answer is 1 and nothing is written anywhere.
  *
  * Answers 1 to 5 leave every other buffer as it was. Answer 0 leaves the
  * images and masks after the trace, and the reply of the record on line n at

@@ -1,9 +1,10 @@
 /*
  * How long a replay takes: the proved library, plain Rust and one plain pass in C, in turns in one process.
  *
- *   bench TURNS (tied|untied|growth FILE)..
+ *   bench TURNS (tied|untied|growth|spoilt FILE)..
  *
- * With 0 turns nothing is timed: what the three leave is compared, and the last line is a tally.
+ * With 0 turns nothing is timed: what the three leave is compared, of a trace to be spoilt also where each of its bytes
+ * is, and the last line is a tally.
  *
  * Each call is on the same buffers without dumps, restored before it outside of the timed part; the order of the three
  * goes round, and back. There are as many turns as fit into two seconds a trace, at least 9 and at most TURNS, after one that is
@@ -22,10 +23,10 @@
 #include "replays.h"
 
 enum way { LIBRARY, PLAIN, PASS, WAYS };
-enum group { TIED, UNTIED, GROWTH, GROUPS };
+enum group { TIED, UNTIED, GROWTH, SPOILT, GROUPS };
 enum { LEAST_TURNS = 9, MOST_TURNS = 100000 };
 
-static const char *const GROUP_NAMES[GROUPS] = {"tied", "untied", "growth"};
+static const char *const GROUP_NAMES[GROUPS] = {"tied", "untied", "growth", "spoilt"};
 static replay_call *const REPLAYS[WAYS] = {hazelcrook_replay, plain_replay, pass_replay};
 static const double BUDGET = 2.0; /* seconds a trace */
 
@@ -139,10 +140,15 @@ static double timed(const struct trace *trace, enum way way)
     return now() - begin;
 }
 
+static int same_result(const struct desk *one, const struct desk *other)
+{
+    return one->answer == other->answer && memcmp(one->result, other->result, sizeof one->result) == 0;
+}
+
 /* The name of the first thing in which two desks differ. */
 static const char *difference(const struct desk *one, const struct desk *other)
 {
-    if (one->answer != other->answer || memcmp(one->result, other->result, sizeof one->result) != 0)
+    if (!same_result(one, other))
         return "answer or result";
     if (memcmp(one->flash, other->flash, sizeof one->flash) != 0)
         return "flash image";
@@ -157,7 +163,20 @@ static const char *difference(const struct desk *one, const struct desk *other)
     return NULL;
 }
 
-/* The first turn: what each leaves is kept and compared. The pass tries no orders, so it is held to settled traces. */
+/* What differs from the library where the same is due. The pass tries no orders, so it is not held to a stop; it undoes
+   nothing, so of a refused trace it is held to answer and result. */
+static const char *wrong_difference(enum way way)
+{
+    uint32_t answer = left[LIBRARY].answer;
+
+    if (way == PLAIN || answer == HAZELCROOK_SETTLED)
+        return difference(&left[LIBRARY], &left[way]);
+    if (answer < HAZELCROOK_CROWDED && !same_result(&left[LIBRARY], &left[way]))
+        return "answer or result";
+    return NULL;
+}
+
+/* The first turn: what each leaves is kept and compared. */
 static double first_turn(struct trace *trace)
 {
     double seconds = 0;
@@ -169,9 +188,9 @@ static double first_turn(struct trace *trace)
     }
     trace->answer = left[LIBRARY].answer;
     for (way = PLAIN; way < WAYS; way++) {
-        const char *differs = difference(&left[LIBRARY], &left[way]);
+        const char *differs = wrong_difference((enum way)way);
 
-        if (differs != NULL && (way == PLAIN || trace->answer == HAZELCROOK_SETTLED)) {
+        if (differs != NULL) {
             fprintf(stderr, "bench: %s: %s differs between the library and %s\n", trace->file, differs,
                     way == PLAIN ? "plain Rust" : "the pass in C");
             exit(2);
@@ -299,16 +318,59 @@ static int tell_bar(const struct bar *bar, const struct trace *traces, int count
     return asked != 0 && missed == 0;
 }
 
+/* The ways to spoil a trace at a place: its end or the byte is lost, a bit is changed, or another byte stands there. */
+enum { CUT_OFF, BYTE_LOST, BIT_CHANGED, OTHER_BYTE };
+
+static const char OTHER_BYTES[] = {'\t', ' ', '\n', 'O', '9'};
+
+enum { SPOILS = OTHER_BYTE + sizeof OTHER_BYTES };
+
+static void spoil(struct trace *trace, size_t place, int how)
+{
+    uint8_t *at = trace->text + place;
+
+    switch (how) {
+    case CUT_OFF: trace->len = place; break;
+    case BYTE_LOST: memmove(at, at + 1, --trace->len - place); break;
+    case BIT_CHANGED: *at ^= 1; break;
+    default: *at = (uint8_t)OTHER_BYTES[how - OTHER_BYTE]; break;
+    }
+}
+
+/* Spoilt at each of its bytes in each way, most often into a line of wrong form: the line and its bad field are the same. */
+static void compare_spoilt(const struct trace *trace)
+{
+    static struct trace spoilt;
+    char told[80];
+    size_t place;
+    int how;
+
+    for (place = 0; place < trace->len; place++)
+        for (how = 0; how < SPOILS; how++) {
+            spoilt = *trace;
+            spoil(&spoilt, place, how);
+            snprintf(told, sizeof told, "%s, spoilt at byte %zu (%d)", trace->name, place, how);
+            spoilt.file = told;
+            first_turn(&spoilt);
+        }
+    printf("passed: %s: spoilt at each byte it leaves the same too\n", trace->name);
+}
+
 /* Every trace once: one that differs ends the program. */
 static void compare_all(struct trace *traces, int count)
 {
-    int number;
+    int passed = 0, number;
 
     for (number = 0; number < count; number++) {
         first_turn(&traces[number]);
         printf("passed: %s: the library and what is measured beside it leave the same\n", traces[number].name);
+        passed++;
+        if (traces[number].group == SPOILT) {
+            compare_spoilt(&traces[number]);
+            passed++;
+        }
     }
-    printf("%d passed, 0 failed\n", count);
+    printf("%d passed, 0 failed\n", passed);
 }
 
 /* Every trace in turns, then the bars; those of growth have none. 0 where a bar is missed. */
@@ -333,7 +395,7 @@ int main(int argc, char **argv)
     struct trace *traces;
 
     if (turns < 0 || turns > MOST_TURNS || argc < 4 || argc % 2 != 0)
-        fault("usage", "bench TURNS (tied|untied|growth FILE)..");
+        fault("usage", "bench TURNS (tied|untied|growth|spoilt FILE)..");
     traces = calloc((size_t)count, sizeof *traces);
     if (traces == NULL)
         fault("no memory", "traces");

@@ -2,8 +2,8 @@
  * The replay as one plain pass in C, a yardstick for traces without ties: each line is read once, checked, and played
  * in the order written directly on the lent images, and its reply is put down at once. It holds no stamp together and
  * tries no order, so it can't say 6 or 7: tied records are played as they stand, which is right wherever every order
- * agrees. It undoes nothing: at a bad line it answers 3, 4 or 5 with images and replies as far as they got. It is
- * given readable traces only.
+ * agrees. It undoes nothing: at a bad line it answers 3, 4 or 5, with the result that is due, and leaves images and
+ * replies as far as they got. What is timed are readable traces.
  */
 #include "replays.h"
 
@@ -31,7 +31,7 @@ enum {
     DONT_CARE = 0x08
 };
 
-enum event { F_SEL, F_X, F_CUT, F_DES, F_END, E_STA, E_B, E_CUT, E_STO, E_END, L_ON, L_OFF, L_LOCK, L_FREE, UNKNOWN };
+enum event { F_SEL, F_X, F_CUT, F_DES, F_END, E_STA, E_B, E_CUT, E_STO, E_END, L_ON, L_OFF, L_LOCK, L_FREE };
 
 struct record {
     uint32_t stamp;
@@ -88,7 +88,16 @@ struct text {
     const uint8_t *at, *end;
 };
 
-/* Reading. */
+/* Reading. A line is given back as 0, or as the number of its first bad field (request 2/12). */
+
+/* The bad field where something else than the end of this one was due: where it does end here it is good, and the next
+   is missing or too many, or the LF is missing. */
+static uint32_t bad_behind(const struct text *text, uint32_t field)
+{
+    int ends = text->at == text->end || *text->at == '\t' || *text->at == '\n';
+
+    return ends ? field + 1 : field;
+}
 
 static int take_byte(struct text *text, char byte)
 {
@@ -153,76 +162,113 @@ static int take_stamp(struct text *text, uint32_t *stamp)
     return 1;
 }
 
-static int take_board(struct text *text, struct board *board)
+/* The LF behind a line's last field. */
+static uint32_t take_end(struct text *text, uint32_t last)
 {
-    uint8_t status, watched, address;
+    return take_byte(text, '\n') ? 0 : bad_behind(text, last);
+}
 
-    if (!take_word(text, "board\t") || !take_hex(text, &status) || !take_byte(text, '\t') ||
-        !take_digit(text, 1, 4, &watched) || !take_byte(text, '\t') || !take_digit(text, 0, 7, &address) ||
-        !take_byte(text, '\n') || (status & ~WRITTEN) != 0)
-        return 0;
-    board->flash.status = status;
+static uint32_t take_board(struct text *text, struct board *board)
+{
+    uint8_t watched, address;
+
+    if (!take_word(text, "board"))
+        return 1;
+    if (!take_byte(text, '\t'))
+        return bad_behind(text, 1);
+    if (!take_hex(text, &board->flash.status) || (board->flash.status & ~WRITTEN) != 0)
+        return 2;
+    if (!take_byte(text, '\t'))
+        return bad_behind(text, 2);
+    if (!take_digit(text, 1, 4, &watched))
+        return 3;
+    if (!take_byte(text, '\t'))
+        return bad_behind(text, 3);
+    if (!take_digit(text, 0, 7, &address))
+        return 4;
     board->flash.watched = watched;
     board->eeprom.own = (uint8_t)(0xa0 | address << 1);
-    return 1;
+    return take_end(text, 4);
 }
 
-static enum event flash_event(struct text *text, struct record *record)
+static uint32_t take_flash_event(struct text *text, struct record *record)
 {
-    if (take_word(text, "x\t")) {
-        int whole = take_hex(text, &record->first) && take_byte(text, '\t') && take_hex(text, &record->second);
-
-        return whole ? F_X : UNKNOWN;
+    if (take_word(text, "x")) {
+        record->event = F_X;
+        if (!take_byte(text, '\t'))
+            return bad_behind(text, 3);
+        if (!take_hex(text, &record->first))
+            return 4;
+        if (!take_byte(text, '\t'))
+            return bad_behind(text, 4);
+        return take_hex(text, &record->second) ? take_end(text, 5) : 5;
     }
     if (take_word(text, "sel"))
-        return F_SEL;
-    if (take_word(text, "des"))
-        return F_DES;
-    if (take_word(text, "end"))
-        return F_END;
-    return take_word(text, "cut") ? F_CUT : UNKNOWN;
+        record->event = F_SEL;
+    else if (take_word(text, "des"))
+        record->event = F_DES;
+    else if (take_word(text, "end"))
+        record->event = F_END;
+    else if (take_word(text, "cut"))
+        record->event = F_CUT;
+    else
+        return 3;
+    return take_end(text, 3);
 }
 
-static enum event eeprom_event(struct text *text, struct record *record)
+static uint32_t take_eeprom_event(struct text *text, struct record *record)
 {
-    if (take_word(text, "b\t")) {
-        int whole = take_hex(text, &record->first) && take_byte(text, '\t') && take_digit(text, 0, 1, &record->second);
-
-        return whole ? E_B : UNKNOWN;
+    if (take_word(text, "b")) {
+        record->event = E_B;
+        if (!take_byte(text, '\t'))
+            return bad_behind(text, 3);
+        if (!take_hex(text, &record->first))
+            return 4;
+        if (!take_byte(text, '\t'))
+            return bad_behind(text, 4);
+        return take_digit(text, 0, 1, &record->second) ? take_end(text, 5) : 5;
     }
     if (take_word(text, "sta"))
-        return E_STA;
-    if (take_word(text, "sto"))
-        return E_STO;
-    if (take_word(text, "end"))
-        return E_END;
-    return take_word(text, "cut") ? E_CUT : UNKNOWN;
+        record->event = E_STA;
+    else if (take_word(text, "sto"))
+        record->event = E_STO;
+    else if (take_word(text, "end"))
+        record->event = E_END;
+    else if (take_word(text, "cut"))
+        record->event = E_CUT;
+    else
+        return 3;
+    return take_end(text, 3);
 }
 
-static enum event line_event(struct text *text)
+static uint32_t take_line_event(struct text *text, struct record *record)
 {
     if (take_word(text, "on"))
-        return L_ON;
-    if (take_word(text, "off"))
-        return L_OFF;
-    if (take_word(text, "lock"))
-        return L_LOCK;
-    return take_word(text, "free") ? L_FREE : UNKNOWN;
+        record->event = L_ON;
+    else if (take_word(text, "off"))
+        record->event = L_OFF;
+    else if (take_word(text, "lock"))
+        record->event = L_LOCK;
+    else if (take_word(text, "free"))
+        record->event = L_FREE;
+    else
+        return 3;
+    return take_end(text, 3);
 }
 
-static int take_record(struct text *text, struct record *record)
+static uint32_t take_record(struct text *text, struct record *record)
 {
-    if (!take_stamp(text, &record->stamp) || !take_byte(text, '\t'))
-        return 0;
+    if (!take_stamp(text, &record->stamp))
+        return 1;
+    if (!take_byte(text, '\t'))
+        return bad_behind(text, 1);
     if (take_word(text, "F\t"))
-        record->event = flash_event(text, record);
-    else if (take_word(text, "E\t"))
-        record->event = eeprom_event(text, record);
-    else if (take_word(text, "L\t"))
-        record->event = line_event(text);
-    else
-        return 0;
-    return record->event != UNKNOWN && take_byte(text, '\n');
+        return take_flash_event(text, record);
+    if (take_word(text, "E\t"))
+        return take_eeprom_event(text, record);
+    if (take_word(text, "L\t"))
+        return take_line_event(text, record);
+    return take_byte(text, 'F') || take_byte(text, 'E') || take_byte(text, 'L') ? bad_behind(text, 2) : 2;
 }
 
 /* Whether the record can be; what it leaves open is taken down. */
@@ -588,7 +634,6 @@ static void play(struct board *board, const struct record *record, uint8_t *repl
     case L_OFF: lose_supply(board); break;
     case L_LOCK: board->lock = 1; board->flash.lock_off = 0; break;
     case L_FREE: board->lock = 0; break;
-    case UNKNOWN: break;
     }
 }
 
@@ -604,7 +649,7 @@ static int any_bit_in_both(const uint8_t *values, const uint8_t *masks)
     return both != 0;
 }
 
-static uint32_t put_result(uint8_t *result, uint32_t answer, uint32_t place, uint32_t count)
+static uint32_t put_result(uint8_t *result, uint32_t answer, uint32_t place, uint32_t count, uint32_t field)
 {
     int byte;
 
@@ -612,6 +657,7 @@ static uint32_t put_result(uint8_t *result, uint32_t answer, uint32_t place, uin
         result[byte] = (uint8_t)(answer >> 8 * byte);
         result[4 + byte] = (uint8_t)(place >> 8 * byte);
         result[8 + byte] = (uint8_t)(count >> 8 * byte);
+        result[12 + byte] = (uint8_t)(field >> 8 * byte);
     }
     return answer;
 }
@@ -627,26 +673,27 @@ static uint32_t pass(struct text *text, struct board *board, uint8_t *replies, u
 {
     struct buses buses = {0, 0, 0, 0};
     struct record record;
-    uint32_t before = 0, count = 0, line = 2;
+    uint32_t before = 0, count = 0, line = 2, field;
     uint8_t *reply = replies;
 
     for (; text->at < text->end; line++, reply += 4) {
-        if (!take_record(text, &record))
-            return put_result(result, HAZELCROOK_BAD_LINE, line, 0);
+        field = take_record(text, &record);
+        if (field != 0)
+            return put_result(result, HAZELCROOK_BAD_LINE, line, 0, field);
         if (record.stamp < before)
-            return put_result(result, HAZELCROOK_BACK_IN_TIME, line, 0);
+            return put_result(result, HAZELCROOK_BACK_IN_TIME, line, 0, 0);
         if (!allowed(&buses, record.event))
-            return put_result(result, HAZELCROOK_IMPOSSIBLE, line, 0);
+            return put_result(result, HAZELCROOK_IMPOSSIBLE, line, 0, 0);
         if (record.event == L_OFF && board->supply && board->flash.cycle == WRSR) {
             clear_rest(replies, reply);
-            return put_result(result, HAZELCROOK_STATUS_LOST, record.stamp, count);
+            return put_result(result, HAZELCROOK_STATUS_LOST, record.stamp, count, 0);
         }
         before = record.stamp;
         play(board, &record, reply);
         count += reply[3] == 2;
     }
     clear_rest(replies, reply);
-    return put_result(result, HAZELCROOK_SETTLED, 0, count);
+    return put_result(result, HAZELCROOK_SETTLED, 0, count, 0);
 }
 
 uint32_t pass_replay(const uint8_t *text, size_t text_len, uint8_t *flash, size_t flash_len, uint8_t *flash_mask,
@@ -655,22 +702,24 @@ uint32_t pass_replay(const uint8_t *text, size_t text_len, uint8_t *flash, size_
 {
     struct text left = {text, text + text_len};
     struct board board;
+    uint32_t field;
 
     if (result_len != HAZELCROOK_RESULT)
         return HAZELCROOK_BAD_BUFFERS;
     if (flash_len != HAZELCROOK_IMAGE || flash_mask_len != HAZELCROOK_IMAGE || eeprom_len != HAZELCROOK_IMAGE ||
         eeprom_mask_len != HAZELCROOK_IMAGE || replies_len != HAZELCROOK_REPLIES ||
         any_bit_in_both(flash, flash_mask) || any_bit_in_both(eeprom, eeprom_mask))
-        return put_result(result, HAZELCROOK_BAD_BUFFERS, 0, 0);
+        return put_result(result, HAZELCROOK_BAD_BUFFERS, 0, 0, 0);
     if (text_len > HAZELCROOK_TEXT)
-        return put_result(result, HAZELCROOK_TOO_LONG, 0, 0);
+        return put_result(result, HAZELCROOK_TOO_LONG, 0, 0, 0);
     memset(&board, 0, sizeof board);
     board.flash.values = flash;
     board.flash.masks = flash_mask;
     board.eeprom.values = eeprom;
     board.eeprom.masks = eeprom_mask;
     board.supply = 1;
-    if (!take_board(&left, &board))
-        return put_result(result, HAZELCROOK_BAD_LINE, 1, 0);
+    field = take_board(&left, &board);
+    if (field != 0)
+        return put_result(result, HAZELCROOK_BAD_LINE, 1, 0, field);
     return pass(&left, &board, replies, result);
 }

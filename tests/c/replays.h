@@ -1,6 +1,6 @@
 /*
- * The two replays that are measured beside the proved one: the same parameters and, of the pass where the trace settles,
- * the same answer and buffers afterwards.
+ * The two replays that are measured beside the proved one: the same parameters, the same answer and the same buffers
+ * afterwards; of the pass so where the trace settles, and where it is refused the same answer and result.
  */
 #ifndef REPLAYS_H
 #define REPLAYS_H

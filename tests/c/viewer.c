@@ -3,10 +3,10 @@
  *
  *   viewer [-f FLASH.BIN] [-e EEPROM.BIN] TRACE [flash|eeprom PAGE]
  *
- * It prints the answer, with its line or its stamp and the count; the reply of each record that was played; and the
- * page asked for. In a page a sure byte is two digits, and a byte with doubtful bits is value/mask as in a listing:
- * 0f/f0 has four sure ones, and four bits that the trace does not fix. A row like the one above it is left out; `*`
- * stands for all such rows in a run.
+ * It prints the answer, with its line or its stamp and the count, and of a line of wrong form the bad field; the reply
+ * of each record that was played; and the page asked for. In a page a sure byte is two digits, and a byte with doubtful
+ * bits is value/mask as in a listing: 0f/f0 has four sure ones, and four bits that the trace does not fix. A row like
+ * the one above it is left out; `*` stands for all such rows in a run.
  *
  * Exit status: 0 whatever the answer; 1 the library broke its word; 2 a file or the command is at fault.
  */
@@ -73,12 +73,12 @@ static void set_up(struct lent *desk, const char *trace, const char *flash_dump,
     put_image(&desk[FLASH], &desk[FLASH_MASK], flash_dump);
     put_image(&desk[EEPROM], &desk[EEPROM_MASK], eeprom_dump);
     desk[REPLIES] = filled(HAZELCROOK_REPLIES, 0);
-    desk[RESULT] = filled(HAZELCROOK_RESULT, 0);
+    desk[RESULT] = filled(HAZELCROOK_RESULT, 0xee);
 }
 
 /* Showing what came of it. */
 
-/* A number of the result: 0 the answer, 1 the line or the stamp, 2 the count. */
+/* A number of the result: 0 the answer, 1 the line or the stamp, 2 the count, 3 the field. */
 static uint32_t result_number(const struct lent *desk, int which)
 {
     const uint8_t *four = desk[RESULT].bytes + 4 * which;
@@ -102,6 +102,50 @@ static const char *answer_words(uint32_t answer)
     }
 }
 
+/* Whether the line has such a field; `place` is where it begins, or else where the line ends. */
+static int has_field(const struct lent *text, uint32_t line, uint32_t field, size_t *place)
+{
+    size_t at = 0;
+
+    for (; line > 1 && at < text->len; at++)
+        line -= text->bytes[at] == '\n';
+    for (; field > 1 && at < text->len && text->bytes[at] != '\n'; at++)
+        field -= text->bytes[at] == '\t';
+    *place = at;
+    return field == 1;
+}
+
+enum { FIELD_SHOWN = 20 };
+
+/* What stands in a field from its place on; a byte that can't be seen is shown as its number. */
+static void show_content(const struct lent *text, size_t place)
+{
+    const uint8_t *bytes = text->bytes + place;
+    size_t len = 0, shown;
+
+    while (len < text->len - place && bytes[len] != '\t' && bytes[len] != '\n')
+        len++;
+    printf("\"");
+    for (shown = 0; shown < len && shown < FIELD_SHOWN; shown++)
+        printf(bytes[shown] >= ' ' && bytes[shown] <= '~' ? "%c" : "\\x%02x", bytes[shown]);
+    printf(shown < len ? "\".. is wrong here\n" : "\" is wrong here\n");
+}
+
+/* The bad field of a bad line: the library tells its number, the text what stands there. */
+static void show_field(const struct lent *text, uint32_t line, uint32_t field)
+{
+    size_t place;
+    int there = has_field(text, line, field, &place);
+
+    printf("field %u: ", (unsigned)field);
+    if (text->len == 0)
+        printf("there is no text\n");
+    else if (there)
+        show_content(text, place);
+    else
+        printf(place == text->len ? "the text ends before it, without a line end\n" : "the line ends before it\n");
+}
+
 static void show_answer(const struct lent *desk)
 {
     uint32_t answer = result_number(desk, 0);
@@ -109,6 +153,8 @@ static void show_answer(const struct lent *desk)
     printf("answer %u: %s\n", (unsigned)answer, answer_words(answer));
     if (answer >= HAZELCROOK_BAD_LINE && answer <= HAZELCROOK_IMPOSSIBLE)
         printf("line %u\n", (unsigned)result_number(desk, 1));
+    if (answer == HAZELCROOK_BAD_LINE)
+        show_field(&desk[TEXT], result_number(desk, 1), result_number(desk, 3));
     if (answer >= HAZELCROOK_CROWDED)
         printf("stamp %u\n", (unsigned)result_number(desk, 1));
     if (answer == HAZELCROOK_SETTLED || answer >= HAZELCROOK_CROWDED)
@@ -224,29 +270,37 @@ static void check_beside(const struct lent *desk)
             broken("it wrote beside a buffer");
 }
 
-/* With a result that is not 12 bytes the call answers 1 and writes nothing, whatever the other buffers are. */
-static void check_short_result(struct lent *desk)
+static void check_result(const struct lent *desk, uint32_t answer)
+{
+    if (answer != result_number(desk, 0))
+        broken("the answer returned is not the one in the result");
+    if (answer != HAZELCROOK_BAD_LINE && result_number(desk, 3) != 0)
+        broken("a field is told where no line is of wrong form");
+}
+
+/* With a result that is not 16 bytes the call answers 1 and writes nothing, whatever the other buffers are. */
+static void check_wrong_result(struct lent *desk, size_t len)
 {
     struct lent result = desk[RESULT];
     struct lent before[BUFFERS];
     int which;
 
-    desk[RESULT] = filled(HAZELCROOK_RESULT - 1, 0xee);
+    desk[RESULT] = filled(len, 0xee);
     for (which = 0; which < BUFFERS; which++) {
         before[which] = lend(desk[which].len, AGAINST_UPPER);
         memcpy(before[which].bytes, desk[which].bytes, desk[which].len);
     }
     if (replay(desk) != HAZELCROOK_BAD_BUFFERS)
-        broken("a result of 11 bytes is not answered by 1");
+        broken("a result of a wrong length is not answered by 1");
     for (which = 0; which < BUFFERS; which++) {
         if (memcmp(before[which].bytes, desk[which].bytes, desk[which].len) != 0)
-            broken("a refusal for a result of 11 bytes wrote something");
+            broken("a refusal for a result of a wrong length wrote something");
         take_back(&before[which]);
     }
     check_beside(desk);
     take_back(&desk[RESULT]);
     desk[RESULT] = result;
-    printf("a result of 11 bytes: answer 1, nothing written\n");
+    printf("a result of %zu bytes: answer 1, nothing written\n", len);
 }
 
 /* The command. */
@@ -302,13 +356,13 @@ int main(int argc, char **argv)
     set_up(desk, argv[0], flash_dump, eeprom_dump);
     answer = replay(desk);
     check_beside(desk);
-    if (answer != result_number(desk, 0))
-        broken("the answer returned is not the one in the result");
+    check_result(desk, answer);
     show_answer(desk);
     show_replies(desk);
     if (argc == 3)
         show_page(desk, chip, page);
-    check_short_result(desk);
+    check_wrong_result(desk, HAZELCROOK_RESULT - 1);
+    check_wrong_result(desk, 12); /* its length before it had a field */
     for (which = 0; which < BUFFERS; which++)
         take_back(&desk[which]);
     return 0;

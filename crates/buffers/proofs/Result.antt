@@ -15,12 +15,12 @@ all-set vs l e =
     ∙ ap (λ (r : List ℕ). vs ++ r) (drop-of-length-le l {i = 0 + length vs} (omega arith)) ∙ append-nil vs
 
 -- a result of the right length is written whole
-pub result-written : (answer number count : ℕ) (old : List ℕ) → length old ≡ resultLength → resultAfter answer number count old ≡ resultBytes answer number count
+pub result-written : (answer number count field : ℕ) (old : List ℕ) → length old ≡ resultLength → resultAfter answer number count field old ≡ resultBytes answer number count field
 unfolding resultAfter
-result-written answer number count old e = simp (eq-eqb _ _ e)
+result-written answer number count field old e = simp (eq-eqb _ _ e)
 
--- three numbers, one after the other
-pub three-words : (answer number count : ℕ) (old : List ℕ) → length old ≡ resultLength
-    → sets (sets (sets old 0 (word answer)) 4 (word number)) 8 (word count) ≡ resultAfter answer number count old
+-- four numbers, one after the other
+pub four-words : (answer number count field : ℕ) (old : List ℕ) → length old ≡ resultLength
+    → sets (sets (sets (sets old 0 (word answer)) 4 (word number)) 8 (word count)) 12 (word field) ≡ resultAfter answer number count field old
 unfolding resultAfter resultBytes
-three-words answer number count old e = all-set (resultBytes answer number count) old e ∙ simp (eq-eqb _ _ e)
+four-words answer number count field old e = all-set (resultBytes answer number count field) old e ∙ simp (eq-eqb _ _ e)

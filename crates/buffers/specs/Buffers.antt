@@ -1,4 +1,4 @@
--- Believed: The lent buffers: when they fit, what the result holds, and how the replies stand (document 01, 'Replies and stopping').
+-- Believed: The lent buffers: when they fit, what the result holds, and how the replies stand (document 01, 'Replies and stopping'; document 02, request 2/12).
 use Prim.Native.Nat.{ℕ, _/_, _%_}
 use mathlib.Core.Bool.{Bool, true, false}
 use mathlib.Core.List.{List, [], _∷_, _++_}
@@ -43,10 +43,10 @@ fit x =
 abbrev pub word : ℕ → List ℕ
 word a = (a % 256) ∷ (a / 256 % 256) ∷ (a / 65536 % 256) ∷ (a / 16777216 % 256) ∷ []
 
--- 'answer, line or stamp, count'
-unfoldable pub resultBytes : ℕ → ℕ → ℕ → List ℕ
-resultBytes answer number count = word answer ++ (word number ++ word count)
+-- 'answer, line or stamp, count', and 'the last four the field or 0'
+unfoldable pub resultBytes : ℕ → ℕ → ℕ → ℕ → List ℕ
+resultBytes answer number count field = word answer ++ (word number ++ (word count ++ word field))
 
 -- 'with a wrong length nothing is written there'
-unfoldable pub resultAfter : ℕ → ℕ → ℕ → List ℕ → List ℕ
-resultAfter answer number count old = pick (eqb (length old) resultLength) (resultBytes answer number count) old
+unfoldable pub resultAfter : ℕ → ℕ → ℕ → ℕ → List ℕ → List ℕ
+resultAfter answer number count field old = pick (eqb (length old) resultLength) (resultBytes answer number count field) old

@@ -1,5 +1,5 @@
 // The lent buffers of a replay: whether they fit, and what is written to the result and to the replies.
-// A buffer of another length than document 01 gives it is left alone.
+// A buffer of another length than the documents give it is left alone.
 ghost use mathlib.Core.Path.{_≡_};
 ghost use mathlib.Core.List.{[], _∷_};
 ghost use Prim.Native.Nat.{_+_, _≤_};
@@ -68,9 +68,9 @@ fn is_clear(values: &[u8], masks: &[u8]) -> bool
     ok
 }
 
-// The result: the answer's number, a line or a stamp, a count.
-pub fn put_result(result: &mut [u8], answer: u32, number: usize, count: u32)
-    ensures { λ _. ⌜ now (result .exit) ≡ resultAfter answer number count (now (result .entry)) ⌝ }
+// The result: the answer's number, a line or a stamp, a count, the number of a line's first bad field.
+pub fn put_result(result: &mut [u8], answer: u32, number: usize, count: u32, field: u32)
+    ensures { λ _. ⌜ now (result .exit) ≡ resultAfter answer number count field (now (result .entry)) ⌝ }
 {
     if result.len() != record::RESULT {
         return;
@@ -78,6 +78,7 @@ pub fn put_result(result: &mut [u8], answer: u32, number: usize, count: u32)
     put_word(result, 0, answer as usize);
     put_word(result, 4, number);
     put_word(result, 8, count as usize);
+    put_word(result, 12, field as usize);
 }
 
 // Nothing is replied yet.

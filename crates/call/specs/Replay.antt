@@ -1,4 +1,4 @@
--- Believed: What the call answers and leaves (document 01, 'Replies and stopping', the table and what follows it).
+-- Believed: What the call answers and leaves (document 01, 'Replies and stopping', the table and what follows it; document 02, request 2/12).
 use mathlib.Core.Path.{_≡_}
 use mathlib.Core.Bool.{true, false}
 use mathlib.Core.Logic.{_⊎_}
@@ -33,11 +33,11 @@ pub record Ended : Type 0 where
 abbrev pub endedAs : ℕ → Buffers → Ended
 endedAs n x = record { answer = n; buffers = x }
 
--- refusals 1 to 5 leave all untouched but the result: the answer, the line (0 for 1 and 2), and no count
-unfoldable pub refusedAs : Answer → ℕ → Buffers → Ended
-refusedAs a line x =
+-- refusals 1 to 5 leave all untouched but the result: the answer, the line (0 for 1 and 2), no count, and the field (0 for all but 3)
+unfoldable pub refusedAs : Answer → ℕ → ℕ → Buffers → Ended
+refusedAs a line field x =
     endedAs (answerNumber a)
-    (record { images = x .images; replies = x .replies; result = resultAfter (answerNumber a) line 0 (x .result) })
+    (record { images = x .images; replies = x .replies; result = resultAfter (answerNumber a) line 0 field (x .result) })
 
 -- the replies to the records, four bytes each, in the order of the lines
 unfoldable pub replyLines : List Record → List Reply → List ℕ
@@ -55,14 +55,14 @@ countTwos (r ∷ rs) (y ∷ ys) = twos (compared (r .event) y) + countTwos rs ys
 unfoldable pub padded : List ℕ → List ℕ
 padded w = w ++ replicate (repliesLength - length w) 0
 
--- the number n, the stamp t, and what v shows of the records rs
+-- the number n, the stamp t, and what v shows of the records rs; no field is bad
 unfoldable pub shownAs : Board → ℕ → ℕ → List Record → Outcome Machine Reply → Ended
 shownAs b n t rs v =
     endedAs n
     (record {
       images = v .state .images;
       replies = padded (replyLines rs (shownAt (onMachine b) rs v));
-      result = resultBytes n t (countTwos rs (shownAt (onMachine b) rs v));
+      result = resultBytes n t (countTwos rs (shownAt (onMachine b) rs v)) 0;
     })
 
 abbrev pub reasonAnswer : Reason → Answer
@@ -77,12 +77,12 @@ shown b rs (meaning.stopped n t v) = shownAs b (answerNumber (reasonAnswer n)) t
 
 -- The order of the checks: 1, 2, then the first bad line, then by stamp. A readable text is answered as demand 3 says: z is what the demand admits. Every text is readable or has a first bad line.
 pub record Replays (text : List ℕ) (x : Buffers) (e : Ended) : Type 0 where
-  pub unfit : fit x ≡ false → e ≡ refusedAs BadBuffers 0 x
-  pub long : fit x ≡ true → ltb textLimit (length text) ≡ true → e ≡ refusedAs TooLong 0 x
-  pub bad : fit x ≡ true → ltb textLimit (length text) ≡ false → (a : Answer) (n : ℕ) → Refused text a n → e ≡ refusedAs a n x
+  pub unfit : fit x ≡ false → e ≡ refusedAs BadBuffers 0 0 x
+  pub long : fit x ≡ true → ltb textLimit (length text) ≡ true → e ≡ refusedAs TooLong 0 0 x
+  pub bad : fit x ≡ true → ltb textLimit (length text) ≡ false → (a : Answer) (n f : ℕ) → Refused text a n f → e ≡ refusedAs a n f x
   pub played : fit x ≡ true → ltb textLimit (length text) ≡ false → (b : Board) (rs : List Record) → Readable text b rs →
       (z : meaning.Answer Machine Reply) × Means (onMachine b) rs (machineAtStart b (x .images)) z × (e ≡ shown b rs z)
-  pub read : fit x ≡ true → ltb textLimit (length text) ≡ false → ((b : Board) × (rs : List Record) × Readable text b rs) ⊎ ((a : Answer) × (n : ℕ) × Refused text a n)
+  pub read : fit x ≡ true → ltb textLimit (length text) ≡ false → ((b : Board) × (rs : List Record) × Readable text b rs) ⊎ ((a : Answer) × (n : ℕ) × (f : ℕ) × Refused text a n f)
 
 -- for a C caller 0 is the flash, any other number the EEPROM
 abbrev pub chipOf : ℕ → Chip

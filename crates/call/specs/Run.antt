@@ -24,7 +24,7 @@ use Rattle.call.specs.Replay.{Ended, endedAs, shown}
 -- an answer with its stamp and count, and the buffers as they are left
 abbrev pub endedWith : Answer → ℕ → ℕ → Images → List ℕ → Ended
 endedWith a t count x replies =
-    endedAs (answerNumber a) (record { images = x; replies = replies; result = resultBytes (answerNumber a) t count })
+    endedAs (answerNumber a) (record { images = x; replies = replies; result = resultBytes (answerNumber a) t count 0 })
 
 pub record Runs (text : List ℕ) (first : ℕ) (b : Board) (x : Images) (replies : List ℕ) (e : Ended) : Type 0 where
   pub runs : (rs : List Record) → Readable text b rs → first ≡ length (spelledBoard b) → replies ≡ replicate repliesLength 0 →

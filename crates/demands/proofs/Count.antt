@@ -76,21 +76,21 @@ records-most b (meaning.settled v) rs = omega arith
 records-most b (meaning.stopped n t v) rs = filter-most _ rs
 
 -- ---- the call
-left-count : (b : Board) (n t : ℕ) (ps : List Record) (m : Machine) → leftBy b n t ps m .buffers .result ≡ resultBytes (leftBy b n t ps m .answer) t (matchesTwo (leftBy b n t ps m .buffers .replies))
+left-count : (b : Board) (n t : ℕ) (ps : List Record) (m : Machine) → leftBy b n t ps m .buffers .result ≡ resultBytes (leftBy b n t ps m .answer) t (matchesTwo (leftBy b n t ps m .buffers .replies)) 0
 unfolding leftBy
-left-count b n t ps m = ap (resultBytes n t) (padded-two ps (said (onMachine b) ps m))
+left-count b n t ps m = ap (λ (c : ℕ). resultBytes n t c 0) (padded-two ps (said (onMachine b) ps m))
 
 left-small : (b : Board) (n t : ℕ) (ps : List Record) (m : Machine) → matchesTwo (leftBy b n t ps m .buffers .replies) ≤ length ps
 unfolding leftBy
 left-small b n t ps m = rw (← padded-two ps (said (onMachine b) ps m)) (count-most ps (said (onMachine b) ps m))
 
 module _ {text : List ℕ} {x : Buffers} {e : Ended} {b : Board} {rs : List Record} (p : Replays text x e) (f : fit x ≡ true) (l : ltb textLimit (length text) ≡ false) (q : Readable text b rs) where
-  -- the result holds the answer, a stamp, and the number of matches 2 in the replies
-  pub count-is : (t : ℕ) × (e .buffers .result ≡ resultBytes (e .answer) t (matchesTwo (e .buffers .replies)))
+  -- the result holds the answer, a stamp, the number of matches 2 in the replies, and no field
+  pub count-is : (t : ℕ) × (e .buffers .result ≡ resultBytes (e .answer) t (matchesTwo (e .buffers .replies)) 0)
   count-is =
       let z = call-left p f l q in (
         stampOf (z .0),
-        subst (λ (w : Ended). w .buffers .result ≡ resultBytes (w .answer) (stampOf (z .0)) (matchesTwo (w .buffers .replies))) (sym (z .2))
+        subst (λ (w : Ended). w .buffers .result ≡ resultBytes (w .answer) (stampOf (z .0)) (matchesTwo (w .buffers .replies)) 0) (sym (z .2))
             (left-count b (numberOf (z .0)) (stampOf (z .0)) (recordsOf b (z .0) rs) (machineAtStart b (x .images))),
       )
 

@@ -16,7 +16,7 @@ use Rattle.demands.specs.Replies.{Replies}
 use Rattle.demands.specs.Doubt.{Doubt}
 use Rattle.demands.specs.Lines.{Reordered}
 use Rattle.demands.specs.Demands.{AllDemands}
-use Rattle.demands.proofs.FirstBadLine.{bad-buffers, too-long, wrong-form, back-in-time, impossible, first-bad-line, untouched, wrong-result-length}
+use Rattle.demands.proofs.FirstBadLine.{bad-buffers, too-long, wrong-form, back-in-time, impossible, first-bad-line, bad-field, no-field, untouched, wrong-result-length}
 use Rattle.demands.proofs.Grounds.{settled-grounds, stop-grounds, no-other}
 use Rattle.demands.proofs.Stops.{stops-earliest, settled-means, settled-shows, stop-shows, settled-alike, stop-alike, reason-stays, not-forgiven, differ-means-two}
 use Rattle.demands.proofs.Replies.{each-reply, each-played}
@@ -35,6 +35,8 @@ module _ {text : List ℕ} {x : Buffers} {e : Ended} (p : Replays text x e) wher
     back-in-time = back-in-time p;
     impossible = impossible p;
     first-bad-line = first-bad-line p;
+    bad-field = bad-field p;
+    no-field = no-field p;
     settled = settled-grounds p;
     stopped = stop-grounds p;
     no-other = no-other p;

@@ -33,7 +33,7 @@ module _ {text : List ℕ} {x : Buffers} {e e′ : Ended} (p : Replays text x e)
       let z = p .played f l (r .0) (r .1) (r .2) in
       let w = q .played f l (r .0) (r .1) (r .2) in
       same-shown (r .0) (r .1) _ (z .0) (w .0) (readable-back (r .2)) (z .1) (w .1) (z .2) (w .2))
-      (λ r. p .bad f l (r .0) (r .1) (r .2) ∙ sym (q .bad f l (r .0) (r .1) (r .2))) (p .read f l)
+      (λ r. p .bad f l (r .0) (r .1) (r .2) (r .3) ∙ sym (q .bad f l (r .0) (r .1) (r .2) (r .3))) (p .read f l)
 
   pub determined : e ≡ e′
   determined =

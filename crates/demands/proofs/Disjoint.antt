@@ -151,7 +151,7 @@ way-clean : (text : List ℕ) (x : Buffers) (e : Ended) → Fit x → Way text x
 unfolding refusedAs
 way-clean text x e h (unfit f k) = rw k (h .clean)
 way-clean text x e h (long f l k) = rw k (h .clean)
-way-clean text x e h (bad f l a n w k) = rw k (h .clean)
+way-clean text x e h (bad f l a n g w k) = rw k (h .clean)
 way-clean text x e h (played f l b rs q z d k) =
     let m = machineAtStart b (x .images) in
     rw (k ∙ left-shown b rs (readable-back q) m z d) (left-clean b _ _ _ m (h .clean))

@@ -16,7 +16,7 @@ use Rattle.record.specs.declared.LineEvent.the-variants.{SupplyOff}
 use Rattle.image.specs.Images.{Images}
 use Rattle.field.specs.Hex.{hexDigit, hexField}
 use Rattle.field.specs.Digit.{digitField}
-use Rattle.field.specs.Decimal.{digitsIn, decimal, decimalField}
+use Rattle.field.specs.Decimal.{digitsIn, decimal}
 use Rattle.line.specs.ChannelF.{spelledFlash}
 use Rattle.line.specs.ChannelL.{spelledLine}
 use Rattle.line.specs.Records.{spelledEvent, spelled, RecordOk}
@@ -43,7 +43,7 @@ pub listing-spelled : spelledTrace plain (listing 0x00) ≡
     49 ∷ 48 ∷ 9 ∷ 70 ∷ 9 ∷ 120 ∷ 9 ∷ 48 ∷ 48 ∷ 9 ∷ 48 ∷ 48 ∷ 10 ∷
     49 ∷ 48 ∷ 9 ∷ 70 ∷ 9 ∷ 100 ∷ 101 ∷ 115 ∷ 10 ∷
     56 ∷ 48 ∷ 9 ∷ 76 ∷ 9 ∷ 111 ∷ 102 ∷ 102 ∷ 10 ∷ []
-unfolding spelledTrace spelledAll spelled spelledEvent spelledFlash spelledLine spelledBoard spelledPlaces hexField hexDigit digitField decimalField decimal digitsIn
+unfolding spelledTrace spelledAll spelled spelledEvent spelledFlash spelledLine spelledBoard spelledPlaces hexField hexDigit digitField decimal digitsIn
 listing-spelled = refl
 
 -- the spelling of a board and records can be read, and is within the limit

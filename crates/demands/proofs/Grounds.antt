@@ -19,18 +19,18 @@ use Rattle.demands.proofs.Stops.{stop-answer, settled-means}
 
 module _ {text : List ℕ} {x : Buffers} {e : Ended} where
   taken : Way text x e → (e .answer ≡ 0) ⊎ (6 ≤ e .answer) → (b : Board) × (rs : List Record) × Taken text x b rs
-  taken (unfit f q) h = let k = number-of x BadBuffers 0 q in ⊎-elim (λ s. absurd (omega arith)) (λ s. absurd (omega arith)) h
-  taken (long f l q) h = let k = number-of x TooLong 0 q in ⊎-elim (λ s. absurd (omega arith)) (λ s. absurd (omega arith)) h
-  taken (bad f l a n w q) h =
-      let k = number-of x a n q in
+  taken (unfit f q) h = let k = number-of x BadBuffers 0 0 q in ⊎-elim (λ s. absurd (omega arith)) (λ s. absurd (omega arith)) h
+  taken (long f l q) h = let k = number-of x TooLong 0 0 q in ⊎-elim (λ s. absurd (omega arith)) (λ s. absurd (omega arith)) h
+  taken (bad f l a n j w q) h =
+      let k = number-of x a n j q in
       let r = line-number (refused-line w) in
       ⊎-elim (λ s. absurd (omega arith)) (λ s. absurd (omega arith)) h
   taken (played f l b rs w z m q) h = (b, rs, record { fits = f; within = l; readable = w })
 
   small : Way text x e → e .answer ≤ 8
-  small (unfit f q) = omega (arith, number-of x BadBuffers 0 q)
-  small (long f l q) = omega (arith, number-of x TooLong 0 q)
-  small (bad f l a n w q) = omega (arith, number-of x a n q, line-number (refused-line w))
+  small (unfit f q) = omega (arith, number-of x BadBuffers 0 0 q)
+  small (long f l q) = omega (arith, number-of x TooLong 0 0 q)
+  small (bad f l a n j w q) = omega (arith, number-of x a n j q, line-number (refused-line w))
   small (played f l b rs w z m q) = let k = ap (λ (y : Ended). y .answer) q in ⊎-elim (λ s. omega arith) (λ s. omega arith) (shown-answer b rs z)
 
 module _ {text : List ℕ} {x : Buffers} {e : Ended} (p : Replays text x e) where

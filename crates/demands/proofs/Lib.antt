@@ -19,6 +19,8 @@ pub mod WorkedCases
 pub mod Lent
 pub mod FourTexts
 pub mod PageCut
+pub mod Form
+pub mod TypedWrong
 pub mod ShutOut
 pub mod Verdict
 pub mod Demands

@@ -80,7 +80,7 @@ module _ (b : Board) (ps qs : List Record) (m : Machine) (keeps : (c : Channel) 
   unfolding leftBy
   left-same n t = record {
     answer = refl;
-    result = ap (resultBytes n t) count-same;
+    result = ap (λ (c : ℕ). resultBytes n t c 0) count-same;
     images = ap (λ (s : Machine). s .images) state-same;
   }
 

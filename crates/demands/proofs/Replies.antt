@@ -79,9 +79,9 @@ module _ {text : List ℕ} {x : Buffers} {e : Ended} {b : Board} {rs : List Reco
   settled-lines h =
       settled-shows p f l q h rs (itself (onMachine b) rs (readable-back q)) .replies ∙ ap (λ (ys : List Reply). padded (replyLines rs ys)) (laid-said (onMachine b) rs start)
 
-  pub settled-count : e .answer ≡ 0 → e .buffers .result ≡ resultBytes 0 0 (countTwos rs (said (onMachine b) rs start))
+  pub settled-count : e .answer ≡ 0 → e .buffers .result ≡ resultBytes 0 0 (countTwos rs (said (onMachine b) rs start)) 0
   settled-count h =
-      settled-shows p f l q h rs (itself (onMachine b) rs (readable-back q)) .result ∙ ap₂ (λ (a : ℕ) (ys : List Reply). resultBytes a 0 (countTwos rs ys)) h (laid-said (onMachine b) rs start)
+      settled-shows p f l q h rs (itself (onMachine b) rs (readable-back q)) .result ∙ ap₂ (λ (a : ℕ) (ys : List Reply). resultBytes a 0 (countTwos rs ys) 0) h (laid-said (onMachine b) rs start)
 
   -- a stop at t: of the lines before t
   module _ (n : Reason) (t : ℕ) (s : StopsAt e n t) where
@@ -90,10 +90,10 @@ module _ {text : List ℕ} {x : Buffers} {e : Ended} {b : Board} {rs : List Reco
         stop-shows p f l q n t s (before (onMachine b) t rs) (itself (onMachine b) _ (back-filter (onMachine b) _ rs (readable-back q))) .replies
         ∙ ap (λ (ys : List Reply). padded (replyLines (before (onMachine b) t rs) ys)) (laid-said (onMachine b) (before (onMachine b) t rs) start)
 
-    pub stop-count : e .buffers .result ≡ resultBytes (e .answer) t (countTwos (before (onMachine b) t rs) (said (onMachine b) (before (onMachine b) t rs) start))
+    pub stop-count : e .buffers .result ≡ resultBytes (e .answer) t (countTwos (before (onMachine b) t rs) (said (onMachine b) (before (onMachine b) t rs) start)) 0
     stop-count =
         stop-shows p f l q n t s (before (onMachine b) t rs) (itself (onMachine b) _ (back-filter (onMachine b) _ rs (readable-back q))) .result
-        ∙ ap (λ (ys : List Reply). resultBytes (e .answer) t (countTwos (before (onMachine b) t rs) ys)) (laid-said (onMachine b) (before (onMachine b) t rs) start)
+        ∙ ap (λ (ys : List Reply). resultBytes (e .answer) t (countTwos (before (onMachine b) t rs) ys) 0) (laid-said (onMachine b) (before (onMachine b) t rs) start)
 
   -- so each record's reply is fixed: after the records o before it, at 4 times their number, stands what the machine then says to it
   module _ (o : List Record) (r : Record) (more : List Record) (here : rs ≡ o ++ (r ∷ more)) where

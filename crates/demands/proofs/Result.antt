@@ -1,4 +1,4 @@
--- What the twelve bytes of the result say: each of its three numbers, where it is below 2^32, can be got back.
+-- What the sixteen bytes of the result say: its line or stamp and its field, where they are below 2^32, can be got back.
 use mathlib.Core.Path.{_≡_, sym, ap, _∙_}
 use mathlib.Core.List.{List}
 use Prim.Native.Nat.{ℕ, _≤_, _+_, _*_, _/_, _%_}
@@ -24,19 +24,15 @@ word-back a h = omega (arith, low a, high a h)
 bytes-one : (a b : ℕ) → a ≤ largest → b ≤ largest → a % 256 ≡ b % 256 → a / 256 % 256 ≡ b / 256 % 256 → a / 65536 % 256 ≡ b / 65536 % 256 → a / 16777216 % 256 ≡ b / 16777216 % 256 → a ≡ b
 bytes-one a b h k p q r s = word-back a h ∙ (λ i. wordOf (p i) (q i) (r i) (s i)) ∙ sym (word-back b k)
 
--- so the result says its answer, its line or stamp, and its count
-module _ (a n c a′ n′ c′ : ℕ) (e : resultBytes a n c ≡ resultBytes a′ n′ c′) where
-  at : (k : ℕ) → getD (resultBytes a n c) k 0 ≡ getD (resultBytes a′ n′ c′) k 0
+-- so the result says its line or stamp, and its field
+module _ (a n c f a′ n′ c′ f′ : ℕ) (e : resultBytes a n c f ≡ resultBytes a′ n′ c′ f′) where
+  at : (k : ℕ) → getD (resultBytes a n c f) k 0 ≡ getD (resultBytes a′ n′ c′ f′) k 0
   at k = ap (λ (l : List ℕ). getD l k 0) e
-
-  pub answer-one : a ≤ largest → a′ ≤ largest → a ≡ a′
-  unfolding resultBytes
-  answer-one h k = bytes-one a a′ h k (at 0) (at 1) (at 2) (at 3)
 
   pub number-one : n ≤ largest → n′ ≤ largest → n ≡ n′
   unfolding resultBytes
   number-one h k = bytes-one n n′ h k (at 4) (at 5) (at 6) (at 7)
 
-  pub count-one : c ≤ largest → c′ ≤ largest → c ≡ c′
+  pub field-one : f ≤ largest → f′ ≤ largest → f ≡ f′
   unfolding resultBytes
-  count-one h k = bytes-one c c′ h k (at 8) (at 9) (at 10) (at 11)
+  field-one h k = bytes-one f f′ h k (at 12) (at 13) (at 14) (at 15)

@@ -45,7 +45,7 @@ left-shown b rs back m z h =
     let k = means-lines b rs back m z h in
     let ps = recordsOf b z rs in
     shown-is b rs z
-    ∙ ap₂ (λ (s : Machine) (ys : List Reply). endedAs (numberOf z) (record { images = s .images; replies = padded (replyLines ps ys); result = resultBytes (numberOf z) (stampOf z) (countTwos ps ys) })) (k .0) (k .1)
+    ∙ ap₂ (λ (s : Machine) (ys : List Reply). endedAs (numberOf z) (record { images = s .images; replies = padded (replyLines ps ys); result = resultBytes (numberOf z) (stampOf z) (countTwos ps ys) 0 })) (k .0) (k .1)
 
 -- the same of the call
 pub call-left : {text : List ℕ} {x : Buffers} {e : Ended} {b : Board} {rs : List Record} → Replays text x e → fit x ≡ true → ltb textLimit (length text) ≡ false → Readable text b rs →

@@ -35,6 +35,7 @@ use Rattle.demands.specs.Worked.{pageCut}
 use Rattle.demands.specs.ShutOut.{listing, wrenOff, programOff, sent, programmed, ShutOut}
 use Rattle.demands.proofs.FourTexts.{Written, listing-written, wrenOff-written, programOff-written, programmed-written, listing-settled, programmed-settled}
 use Rattle.demands.proofs.PageCut.{pageCut-written, pageCut-settled}
+use Rattle.demands.proofs.TypedWrong.{typed-wrong-told, typed-wrong-first-told}
 
 -- ---- any outcome for a short text on buffers that fit
 module _ (x : Buffers) (h : fit x ≡ true) {e : Ended} where
@@ -46,14 +47,14 @@ module _ (x : Buffers) (h : fit x ≡ true) {e : Ended} where
   listing-settles : (so : ℕ) → so < 256 → Replays (spelledTrace plain (listing so)) x e → e .answer ≡ 0
   listing-settles so k = answers (listing so) (listing-written so k) 0 (listing-settled (x .images) so)
 
-  counted : (so : ℕ) → so < 256 → Replays (spelledTrace plain (listing so)) x e → e .buffers .result ≡ resultBytes 0 0 (countTwos (listing so) (said (onMachine plain) (listing so) (machineAtStart plain (x .images))))
+  counted : (so : ℕ) → so < 256 → Replays (spelledTrace plain (listing so)) x e → e .buffers .result ≡ resultBytes 0 0 (countTwos (listing so) (said (onMachine plain) (listing so) (machineAtStart plain (x .images)))) 0
   counted so k p = settled-count p h (listing-written so k .short) (listing-written so k .reads) (listing-settles so k p)
 
-  counts-none : Replays (spelledTrace plain (listing 0x00)) x e → e .buffers .result ≡ resultBytes 0 0 0
+  counts-none : Replays (spelledTrace plain (listing 0x00)) x e → e .buffers .result ≡ resultBytes 0 0 0 0
   unfolding countTwos said playOn saysOn movedOf delivered compared flashAfter eepromAfter
   counts-none = counted 0x00 (omega arith)
 
-  counts-one : Replays (spelledTrace plain (listing 0x01)) x e → e .buffers .result ≡ resultBytes 0 0 1
+  counts-one : Replays (spelledTrace plain (listing 0x01)) x e → e .buffers .result ≡ resultBytes 0 0 1 0
   unfolding countTwos said playOn saysOn movedOf delivered compared flashAfter eepromAfter
   counts-one = counted 0x01 (omega arith)
 
@@ -94,5 +95,7 @@ shut-out = record {
   counts-none = λ x e h. counts-none x h;
   counts-one = λ x e h. counts-one x h;
   doubts-only-the-sent = λ x e h. page-doubtful x h;
+  tells-another-field = typed-wrong-told;
+  tells-another-field-first = typed-wrong-first-told;
   some-fit = (erased, erased-fits, erased-flash, erased-eeprom);
 }

@@ -1,5 +1,5 @@
 -- For each text and each buffers there is an outcome that the promise of the call admits: every text is readable or refused, and demand 3 has an answer for every trace.
-use mathlib.Core.Path.{_≡_, refl, sym, ap₂, subst, _∙_}
+use mathlib.Core.Path.{_≡_, refl, sym, subst, _∙_}
 use mathlib.Core.Bool.{true, false}
 use mathlib.Core.Logic.{⊎-elim}
 use mathlib.Core.List.{List}
@@ -26,7 +26,7 @@ use Rattle.demands.proofs.Readable.{readable-back, status-known}
 use Rattle.demands.proofs.Telling.{tell}
 
 module _ (text : List ℕ) (x : Buffers) where
-  unfit-replays : fit x ≡ false → Replays text x (refusedAs BadBuffers 0 x)
+  unfit-replays : fit x ≡ false → Replays text x (refusedAs BadBuffers 0 0 x)
   unfit-replays f =
       let no : fit x ≡ true → ⊥ = λ t. true-not-false (sym t ∙ f) in
       record { unfit = λ t. refl; long = λ t. absurd (no t); bad = λ t. absurd (no t); played = λ t. absurd (no t); read = λ t. absurd (no t) }
@@ -35,7 +35,7 @@ module _ (text : List ℕ) (x : Buffers) where
     fits : {P : Type 0} → fit x ≡ false → P
     fits f = absurd (true-not-false (sym t ∙ f))
 
-    long-replays : ltb textLimit (length text) ≡ true → Replays text x (refusedAs TooLong 0 x)
+    long-replays : ltb textLimit (length text) ≡ true → Replays text x (refusedAs TooLong 0 0 x)
     long-replays l =
         let no : ltb textLimit (length text) ≡ false → ⊥ = λ s. true-not-false (sym l ∙ s) in
         record { unfit = λ f. fits f; long = λ t l. refl; bad = λ t s. absurd (no s); played = λ t s. absurd (no s); read = λ t s. absurd (no s) }
@@ -44,11 +44,11 @@ module _ (text : List ℕ) (x : Buffers) where
       short : {P : Type 0} → ltb textLimit (length text) ≡ true → P
       short s = absurd (true-not-false (sym s ∙ l))
 
-      bad-replays : (a : Answer) (n : ℕ) → Refused text a n → Replays text x (refusedAs a n x)
-      bad-replays a n w = record {
+      bad-replays : (a : Answer) (n k : ℕ) → Refused text a n k → Replays text x (refusedAs a n k x)
+      bad-replays a n k w = record {
         unfit = λ f. fits f;
         long = λ t s. short s;
-        bad = λ t s a′ n′ w′. let e = refused-one w w′ in ap₂ (λ (y : Answer) (k : ℕ). refusedAs y k x) (e .0) (e .1);
+        bad = λ t s a′ n′ k′ w′. let e = refused-one w w′ in λ i. refusedAs (e .0 i) (e .1 i) (e .2 i) x;
         played = λ t s b rs q. absurd (not-both q w);
         read = λ t s. some-reading text;
       }
@@ -61,7 +61,7 @@ module _ (text : List ℕ) (x : Buffers) where
       played-replays b rs q e y = record {
         unfit = λ f. fits f;
         long = λ t s. short s;
-        bad = λ t s a n w. absurd (not-both q w);
+        bad = λ t s a n k w. absurd (not-both q w);
         played = λ t s b′ rs′ q′. let k = readable-one q q′ in subst (λ (o : List Record). By e b′ o) (k .1) (subst (λ (c : Board). By e c rs) (k .0) y);
         read = λ t s. some-reading text;
       }
@@ -73,10 +73,10 @@ module _ (text : List ℕ) (x : Buffers) where
           let z = some-answer (onMachine (r .0)) tell (r .1) (readable-back (r .2)) (machineAtStart (r .0) (x .images)) (status-known (r .0) (x .images)) in
           let e = shown (r .0) (r .1) (z .0) in
           (e, played-replays (r .0) (r .1) (r .2) e (z .0, z .1, refl)))
-          (λ r. (refusedAs (r .0) (r .1) x, bad-replays (r .0) (r .1) (r .2))) (some-reading text)
+          (λ r. (refusedAs (r .0) (r .1) (r .2) x, bad-replays (r .0) (r .1) (r .2) (r .3))) (some-reading text)
 
 pub some-outcome : SomeOutcome
 some-outcome text x =
     split (fit x)
-    (λ t. split (ltb textLimit (length text)) (λ l. (refusedAs TooLong 0 x, long-replays text x t l)) (λ l. read-replays text x t l))
-    (λ f. (refusedAs BadBuffers 0 x, unfit-replays text x f))
+    (λ t. split (ltb textLimit (length text)) (λ l. (refusedAs TooLong 0 0 x, long-replays text x t l)) (λ l. read-replays text x t l))
+    (λ f. (refusedAs BadBuffers 0 0 x, unfit-replays text x f))

@@ -54,7 +54,7 @@ shown-shows b n t rs o s v e h q =
     record {
       images = ap (λ (y : Ended). y .buffers .images) k;
       replies = ap (λ (y : Ended). y .buffers .replies) k;
-      result = ap (λ (y : Ended). y .buffers .result) k ∙ ap (λ (a : ℕ). resultBytes a t (countTwos rs (shownAt (onMachine b) rs (outcome (onMachine b) o s)))) (sym (ap (λ (y : Ended). y .answer) k));
+      result = ap (λ (y : Ended). y .buffers .result) k ∙ ap (λ (a : ℕ). resultBytes a t (countTwos rs (shownAt (onMachine b) rs (outcome (onMachine b) o s))) 0) (sym (ap (λ (y : Ended). y .answer) k));
     }
 
 module _ (b : Board) (rs : List Record) (e : Ended) where
@@ -75,7 +75,7 @@ module _ (b : Board) (rs : List Record) (e : Ended) where
       absurd (omega (arith, s .answer, reason-number n))
   stops-shown n t s (meaning.stopped j u v) q h =
       let same = reason-one j n (sym (ap (λ (y : Ended). y .answer) q) ∙ s .answer) in
-      let stamps = number-one _ u _ _ t _ (sym (ap (λ (y : Ended). y .buffers .result) q) ∙ s .result) (h j u v refl) (s .stamp) in
+      let stamps = number-one _ u _ _ _ t _ _ (sym (ap (λ (y : Ended). y .buffers .result) q) ∙ s .result) (h j u v refl) (s .stamp) in
       (v, λ i. meaning.stopped (same i) (stamps i) v)
 
   settled-shown : e .answer ≡ 0 → (z : meaning.Answer Machine Reply) → e ≡ shown b rs z → (v : Outcome Machine Reply) × (z ≡ meaning.settled v)

@@ -29,9 +29,9 @@ use Rattle.demands.specs.Grounds.{OfLine, three, four, five}
 use Rattle.call.specs.Replay.{Ended, refusedAs, reasonAnswer, shownAs, shown, Replays}
 
 pub data Way (text : List ℕ) (x : Buffers) (e : Ended) : Type 0 where
-  unfit : fit x ≡ false → e ≡ refusedAs BadBuffers 0 x → Way text x e
-  long : fit x ≡ true → textLimit < length text → e ≡ refusedAs TooLong 0 x → Way text x e
-  bad : fit x ≡ true → length text ≤ textLimit → (a : Answer) (n : ℕ) → Refused text a n → e ≡ refusedAs a n x → Way text x e
+  unfit : fit x ≡ false → e ≡ refusedAs BadBuffers 0 0 x → Way text x e
+  long : fit x ≡ true → textLimit < length text → e ≡ refusedAs TooLong 0 0 x → Way text x e
+  bad : fit x ≡ true → length text ≤ textLimit → (a : Answer) (n k : ℕ) → Refused text a n k → e ≡ refusedAs a n k x → Way text x e
   played : fit x ≡ true → length text ≤ textLimit → (b : Board) (rs : List Record) → Readable text b rs →
       (z : meaning.Answer Machine Reply) → Means (onMachine b) rs (machineAtStart b (x .images)) z → e ≡ shown b rs z → Way text x e
 
@@ -39,7 +39,7 @@ within : (text : List ℕ) {x : Buffers} {e : Ended} → Replays text x e → fi
 within text p f l =
     let h : length text ≤ textLimit = ltb-false _ _ l in
     ⊎-elim (λ r. let z = p .played f l (r .0) (r .1) (r .2) in played f h (r .0) (r .1) (r .2) (z .0) (z .1) (z .2))
-    (λ r. bad f h (r .0) (r .1) (r .2) (p .bad f l (r .0) (r .1) (r .2))) (p .read f l)
+    (λ r. bad f h (r .0) (r .1) (r .2) (r .3) (p .bad f l (r .0) (r .1) (r .2) (r .3))) (p .read f l)
 
 pub way : {text : List ℕ} {x : Buffers} {e : Ended} → Replays text x e → Way text x e
 way {text} {x} p =
@@ -47,12 +47,12 @@ way {text} {x} p =
     (λ f. split (ltb textLimit (length text)) (λ l. long f (ltb-true _ _ l) (p .long f l)) (λ l. within text p f l))
     (λ f. unfit f (p .unfit f))
 
-wrong-line : {text : List ℕ} {at : ℕ} {rs : List Record} {a : Answer} → Wrong text at rs a → OfLine a
+wrong-line : {text : List ℕ} {at : ℕ} {rs : List Record} {a : Answer} {k : ℕ} → Wrong text at rs a k → OfLine a
 wrong-line (noRecord h n) = three
 wrong-line (falls r o s h) = four
 wrong-line (cannot r o s h i) = five
 
-pub refused-line : {text : List ℕ} {a : Answer} {n : ℕ} → Refused text a n → OfLine a
+pub refused-line : {text : List ℕ} {a : Answer} {n k : ℕ} → Refused text a n k → OfLine a
 refused-line (noBoard none) = three
 refused-line (badLine b rs f w) = wrong-line w
 
@@ -74,7 +74,7 @@ line-one five four e = absurd (omega arith)
 line-one five five e = refl
 
 -- a line's number is below 2^32, and more than 0
-pub line-fits : {text : List ℕ} {a : Answer} {n : ℕ} → length text ≤ textLimit → Refused text a n → n ≤ largest
+pub line-fits : {text : List ℕ} {a : Answer} {n k : ℕ} → length text ≤ textLimit → Refused text a n k → n ≤ largest
 unfolding spelledTrace
 line-fits h (noBoard none) = omega arith
 line-fits {text} h (badLine b rs f w) =

@@ -37,7 +37,7 @@ leftBy b n t ps m =
     (record {
       images = after (onMachine b) ps m .images;
       replies = padded (replyLines ps (said (onMachine b) ps m));
-      result = resultBytes n t (countTwos ps (said (onMachine b) ps m));
+      result = resultBytes n t (countTwos ps (said (onMachine b) ps m)) 0;
     })
 
 -- a record with its reply
@@ -56,7 +56,7 @@ channelIn a = channelOf (a .0 .event)
 abbrev pub repliedOf : Channel → Board → List Record → Machine → List Replied
 repliedOf c b ps m = filter (λ (a : Replied). same c (channelIn a)) (paired ps (said (onMachine b) ps m))
 
--- two calls say the same: the answer, the result (the answer again, the line or stamp, the count), all bytes and all marks
+-- two calls say the same: the answer, the result (the answer again, the line or stamp, the count, the field), all bytes and all marks
 pub record SameReplay (e e′ : Ended) : Type 0 where
   pub answer : e′ .answer ≡ e .answer
   pub result : e′ .buffers .result ≡ e .buffers .result
@@ -66,7 +66,7 @@ pub record SameReplay (e e′ : Ended) : Type 0 where
 pub record Reordered (text : List ℕ) (x : Buffers) (b : Board) (rs ls : List Record) (e e′ : Ended) : Type 0 where
   -- the reordered lines are a readable text
   pub lines-readable : Readable (spelledTrace b ls) b ls
-  -- whatever buffers are lent: the same answer, line or stamp, count, bytes and marks
+  -- whatever buffers are lent: the same answer, line or stamp, count, field, bytes and marks
   pub order-of-lines : SameReplay e e′
   -- the demand admits one answer z for both; and each record's reply follows it: of the records that are shown, played as they are written, each channel has the same records with the same replies
   pub replies-follow : Taken text x b rs →

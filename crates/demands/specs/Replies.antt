@@ -27,6 +27,6 @@ pub record Replies (x : Buffers) (e : Ended) (b : Board) (rs : List Record) : Ty
   pub each-reply : e .answer ≡ 0 → (o : List Record) (r : Record) (more : List Record) → rs ≡ o ++ (r ∷ more) →
       take 4 (drop (4 * length o) (e .buffers .replies)) ≡ replyLine r (saysOn b (after (onMachine b) o (machineAtStart b (x .images))) r)
   pub each-played : e .answer ≡ 0 → (o : List Record) (r : Record) (more : List Record) → rs ≡ o ++ (r ∷ more) → 1 ≤ getD (e .buffers .replies) (4 * length o) 0
-  -- 8. the result holds the answer, a stamp, and the number of matches 2 in the replies, counted on their bytes; four bytes hold it
-  pub count-is : (t : ℕ) × (e .buffers .result ≡ resultBytes (e .answer) t (matchesTwo (e .buffers .replies)))
+  -- 8. the result holds the answer, a stamp, the number of matches 2 in the replies, counted on their bytes, and no field; four bytes hold the number
+  pub count-is : (t : ℕ) × (e .buffers .result ≡ resultBytes (e .answer) t (matchesTwo (e .buffers .replies)) 0)
   pub count-fits : matchesTwo (e .buffers .replies) ≤ largest

@@ -13,18 +13,18 @@ use Rattle.machine.specs.Machine.{Machine, machineAtStart, onMachine}
 use Rattle.buffers.specs.Buffers.{Buffers, resultBytes}
 use Rattle.call.specs.Replay.{Ended, replyLines, countTwos, padded, reasonAnswer}
 
--- the call says n at the stamp t: the answer is n's number, and the result holds the stamp, which a record can have, behind it
+-- the call says n at the stamp t: the answer is n's number, and the result holds the stamp, which a record can have, behind it, then a count, and no field
 pub record StopsAt (e : Ended) (n : Reason) (t : ℕ) : Type 0 where
   pub answer : e .answer ≡ answerNumber (reasonAnswer n)
   pub stamp : t ≤ largest
   pub count : ℕ
-  pub result : e .buffers .result ≡ resultBytes (answerNumber (reasonAnswer n)) t count
+  pub result : e .buffers .result ≡ resultBytes (answerNumber (reasonAnswer n)) t count 0
 
--- The buffers hold how the order o of the records rs, played from s, ends: both images with their masks; for each record of rs, in the order of the lines, the four bytes of the reply that it has in o, and 0 behind; and the answer, the number t and how many of these replies disagree.
+-- The buffers hold how the order o of the records rs, played from s, ends: both images with their masks; for each record of rs, in the order of the lines, the four bytes of the reply that it has in o, and 0 behind; and the answer, the number t, how many of these replies disagree, and no field.
 pub record Shows (b : Board) (t : ℕ) (rs o : List Record) (s : Machine) (e : Ended) : Type 0 where
   pub images : e .buffers .images ≡ after (onMachine b) o s .images
   pub replies : e .buffers .replies ≡ padded (replyLines rs (shownAt (onMachine b) rs (outcome (onMachine b) o s)))
-  pub result : e .buffers .result ≡ resultBytes (e .answer) t (countTwos rs (shownAt (onMachine b) rs (outcome (onMachine b) o s)))
+  pub result : e .buffers .result ≡ resultBytes (e .answer) t (countTwos rs (shownAt (onMachine b) rs (outcome (onMachine b) o s))) 0
 
 module _ (x : Buffers) (e : Ended) (b : Board) (rs : List Record) where
   -- the start, with the images as they are lent

@@ -198,12 +198,12 @@ fn run(
     }
 }
 
-// A refusal writes only the result.
-fn refuse(result: &mut [u8], answer: Answer, line: usize) -> u32
-    ensures { λ r. ⌜ (r ≡ answerNumber answer) × (now (result .exit) ≡ resultAfter (answerNumber answer) line 0 (now (result .entry))) ⌝ }
+// A refusal writes only the result: the answer, the line, no count, the field.
+fn refuse(result: &mut [u8], answer: Answer, line: usize, field: u32) -> u32
+    ensures { λ r. ⌜ (r ≡ answerNumber answer) × (now (result .exit) ≡ resultAfter (answerNumber answer) line 0 field (now (result .entry))) ⌝ }
 {
     let number = record::answer_number(answer);
-    buffers::put_result(result, number, line, 0);
+    buffers::put_result(result, number, line, 0, field);
     number
 }
 
@@ -237,11 +237,11 @@ fn replay(
     let answer = end.answer;
     let number = record::answer_number(answer);
     let stamp = end.stamp as usize;
-    buffers::put_result(result, number, stamp, end.count);
+    buffers::put_result(result, number, stamp, end.count, 0);
     number
 }
 
-// The call: document 01's table of answers 0 to 8, on the caller's own buffers.
+// The call: document 01's table of answers 0 to 8, on the caller's own buffers; a 3 with its field (document 02, request 2/12).
 #[no_mangle]
 pub extern "C" fn hazelcrook_replay(
     text: &[u8],
@@ -257,10 +257,10 @@ pub extern "C" fn hazelcrook_replay(
         (endedAs r (buffersOf (now (flash .exit)) (now («flash_mask» .exit)) (now (eeprom .exit)) (now («eeprom_mask» .exit)) (now (replies .exit)) (now (result .exit)))) ⌝ }
 {
     if !buffers::fits_all(flash, flash_mask, eeprom, eeprom_mask, replies, result) {
-        return refuse(result, Answer::BadBuffers, 0);
+        return refuse(result, Answer::BadBuffers, 0, 0);
     }
     if text::too_long(text) {
-        return refuse(result, Answer::TooLong, 0);
+        return refuse(result, Answer::TooLong, 0, 0);
     }
     let checked = text::check_text(text);
     match checked {
@@ -275,7 +275,7 @@ pub extern "C" fn hazelcrook_replay(
             replies,
             result,
         ),
-        Checked::Refused(answer, line) => refuse(result, answer, line),
+        Checked::Refused(answer, line, field) => refuse(result, answer, line, field),
     }
 }
 

@@ -1,4 +1,4 @@
--- The decimal field: what the reader's loop does with what is left of the text, and that it finds just the spelled numbers.
+-- The decimal: what the reader's loop does with what is left of the text, and that it finds just the spelled numbers.
 use Prim.Native.Nat.{ℕ, suc, zero, _+_, _-_, _*_, _/_, _%_, _≤_, _<_}
 use native.Mathlib.Omega.{arith}
 use native.Mathlib.Numerals.{add-one}
@@ -7,20 +7,21 @@ use mathlib.Core.Path.{_≡_, refl, sym, ap, subst, _∙_}
 use mathlib.Core.Logic.{_⊎_, inl, inr, ⊎-elim}
 use mathlib.Core.Bool.{Bool, true, false}
 use mathlib.Core.List.{List, [], _∷_, _++_, append-assoc, append-nil}
-use lib.Dec.{eqb}
+use lib.Dec.{eqb, leb}
 use lib.Arith.{digits-div, digits-mod}
 use lib.ListN.{length, drop, getD, length-append, drop-of-length-le}
 use lib.Seq.{drop-cons}
-use borrow.Author.Tests.{lt-ltb, le-ltb, eq-eqb, ne-eqb, eqb-true, eqb-false}
+use borrow.Author.Tests.{lt-ltb, le-ltb, le-leb, leb-true, eq-eqb, ne-eqb, eqb-true, eqb-false}
 use Rattle.law.specs.Choice.{split, lt-or-le}
 use Rattle.law.specs.Words.{pick}
 use Rattle.field.specs.declared.decimal.Pushed.{Pushed}
 use Rattle.field.specs.declared.decimal.Pushed.the-variants.{Value, Bad}
 use Rattle.field.specs.declared.decimal.ReadDecimal.{ReadDecimal}
-use Rattle.field.specs.Decimal.{largest, digitsIn, decimal, decimalField}
-use Rattle.field.specs.Readers.{digitOn, pushOf, ReadsDecimal}
-use Rattle.field.specs.Ends.{tabByte, tab}
+use Rattle.field.specs.Ends.{tabByte, lfByte}
+use Rattle.field.specs.Decimal.{largest, digitsIn, decimal, digitsValue, isDecimal}
+use Rattle.field.specs.Readers.{digitOn, pushOf, contentAt, endsHere, stoppedAt, ReadsDecimal}
 use Rattle.field.specs.Reads.{Stands}
+use Rattle.field.proofs.FieldLaws.{Plain, plain-append, rest-at, content-ends, content-is, Tests, spells-tests}
 
 eq-or-ne : (a b : ℕ) → (a ≡ b) ⊎ (a ≡ b → ⊥)
 eq-or-ne a b = split (eqb a b) (λ e. inl (eqb-true a b e)) (λ e. inr (eqb-false a b e))
@@ -97,89 +98,144 @@ push-small v b u first e = push-says v b u first e .0
 push-on : (v d : ℕ) → 0 < v → d < 10 → v * 10 + d ≤ largest → pushOf v false (48 + d) ≡ Value (v * 10 + d)
 push-on v d z h p = simp (ne-eqb v 0 (λ (e : v ≡ 0). omega arith)) (digit-on v d h p)
 
--- ---- the loop
-unfoldable pub decimalFrom : Bool → ℕ → ℕ → List ℕ → ReadDecimal
-decimalFrom first v at [] = ReadDecimal.Bad
-decimalFrom first v at (b ∷ l) = elim (eqb b tabByte) [ true ↦ pick first ReadDecimal.Bad (ReadDecimal.Value v (record { at = at + 1 })) | false ↦ elim (pushOf v first b) [ Value w ↦ decimalFrom false w (at + 1) l | Bad ↦ ReadDecimal.Bad ] ]
+-- ---- the content
+value-append : (v b : ℕ) (w : List ℕ) → digitsValue v (w ++ (b ∷ [])) ≡ digitsValue v w * 10 + (b - 48)
+unfolding digitsValue
+value-append v b [] = refl
+value-append v b (a ∷ w) = value-append (v * 10 + (a - 48)) b w
 
-pub from-tab : (first : Bool) (v at b : ℕ) (l : List ℕ) → b ≡ tabByte → decimalFrom first v at (b ∷ l) ≡ pick first ReadDecimal.Bad (ReadDecimal.Value v (record { at = at + 1 }))
-unfolding decimalFrom
-from-tab first v at b l e = rw (eq-eqb b tabByte e, decimalFrom)
-
-pub from-push : (first : Bool) (v at b w : ℕ) (l : List ℕ) → (b ≡ tabByte → ⊥) → pushOf v first b ≡ Value w → decimalFrom first v at (b ∷ l) ≡ decimalFrom false w (at + 1) l
-unfolding decimalFrom
-from-push first v at b w l n e = rw (ne-eqb b tabByte n, e, decimalFrom)
-
-pub from-bad : (first : Bool) (v at b : ℕ) (l : List ℕ) → (b ≡ tabByte → ⊥) → pushOf v first b ≡ Bad → decimalFrom first v at (b ∷ l) ≡ ReadDecimal.Bad
-unfolding decimalFrom
-from-bad first v at b l n e = rw (ne-eqb b tabByte n, e, decimalFrom)
-
--- a spelled number is read on, digit by digit
-run : (k n : ℕ) → n < k → n ≤ largest → (at : ℕ) (l : List ℕ) → decimalFrom true 0 at (digitsIn k n ++ l) ≡ decimalFrom false n (at + length (digitsIn k n)) l
-run zero n p q at l = absurd (omega arith)
-run (suc k) n p q at l =
-    ⊎-elim (λ (h : n < 10). rw (digits-small k n h) (from-push true 0 at (48 + n) n l (λ (e : 48 + n ≡ tabByte). omega arith) (digit-on 0 n h (omega arith) ∙ ap Value (zero-add n))))
-    (λ (h : 10 ≤ n).
-    let d : n / 10 * 10 + n % 10 ≡ n = div-add-mod' n 10 in
-    rw (digits-more k n h, append-assoc, run k (n / 10) (omega arith) (omega arith) at ((48 + n % 10) ∷ l), length-append)
-    (from-push false (n / 10) (at + length (digitsIn k (n / 10))) (48 + n % 10) (n / 10 * 10 + n % 10) l (λ (e : 48 + n % 10 ≡ tabByte). omega arith) (push-on (n / 10) (n % 10) (omega arith) (omega arith) (omega arith))
-    ∙ rw (d, add-assoc)))
+value-digits : (k n : ℕ) → n < k → digitsValue 0 (digitsIn k n) ≡ n
+unfolding digitsValue
+value-digits zero n p = absurd (omega arith)
+value-digits (suc k) n p =
+    ⊎-elim (λ (h : n < 10). rw (digits-small k n h) (omega arith))
+    (λ (h : 10 ≤ n). rw (digits-more k n h, value-append 0 (48 + n % 10) (digitsIn k (n / 10)), value-digits k (n / 10) (omega arith)) (omega (arith, div-add-mod' n 10)))
     (lt-or-le n 10)
 
--- what is found is spelled there
-Found : Bool → ℕ → ℕ → List ℕ → Type 0
-Found first v at l = (n : ℕ) × (n ≤ largest) × (w : List ℕ) × (rest : List ℕ) × (l ≡ w ++ tabByte ∷ rest) × (soFar first v ++ w ≡ decimal n) × (decimalFrom first v at l ≡ ReadDecimal.Value n (record { at = at + length w + 1 }))
+digits-zero : (m : ℕ) → digitsIn zero m ≡ []
+unfolding digitsIn
+digits-zero m = refl
 
-pub from-nil : (first : Bool) (v at : ℕ) → decimalFrom first v at [] ≡ ReadDecimal.Bad
-unfolding decimalFrom
-from-nil first v at = refl
-
-sound : (l : List ℕ) (first : Bool) (v at : ℕ) → v ≤ largest → (decimalFrom first v at l ≡ ReadDecimal.Bad) ⊎ Found first v at l
-unfolding Found soFar
-sound [] first v at h = inl (from-nil first v at)
-sound (b ∷ l) first v at h = ⊎-elim (ended first) (λ (n : b ≡ tabByte → ⊥). go n (pushOf v first b) refl (λ (u : ℕ). sound l false u (at + 1))) (eq-or-ne b tabByte)
+plain-digits : (k n : ℕ) → Plain (digitsIn k n)
+unfolding Plain
+plain-digits zero n = subst Plain (sym (digits-zero n)) tt
+plain-digits (suc k) n =
+    ⊎-elim (λ (h : n < 10). subst Plain (sym (digits-small k n h)) (one n))
+    (λ (h : 10 ≤ n). subst Plain (sym (digits-more k n h)) (plain-append (digitsIn k (n / 10)) ((48 + n % 10) ∷ []) (plain-digits k (n / 10)) (one (n % 10))))
+    (lt-or-le n 10)
   where
-    ended : (f : Bool) → b ≡ tabByte → (decimalFrom f v at (b ∷ l) ≡ ReadDecimal.Bad) ⊎ Found f v at (b ∷ l)
-    ended true e = inl (from-tab true v at b l e)
-    ended false e = inr (v, h, [], l, rw e, append-nil (decimal v), from-tab false v at b l e ∙ rw add-zero)
+    one : (d : ℕ) → Plain ((48 + d) ∷ [])
+    one d = (λ e. omega arith, λ e. omega arith, tt)
 
-    go : (b ≡ tabByte → ⊥) → (p : Pushed) → pushOf v first b ≡ p → ((u : ℕ) → u ≤ largest → (decimalFrom false u (at + 1) l ≡ ReadDecimal.Bad) ⊎ Found false u (at + 1) l) → (decimalFrom first v at (b ∷ l) ≡ ReadDecimal.Bad) ⊎ Found first v at (b ∷ l)
-    go n Bad e ih = inl (from-bad first v at b l n e)
-    go n (Value u) e ih =
-        let s = push-says v b u first e in
-        let f = from-push first v at b u l n e in
-        ⊎-elim (λ (z : decimalFrom false u (at + 1) l ≡ ReadDecimal.Bad). inl (f ∙ z))
-        (λ (z : Found false u (at + 1) l).
-        inr (z .0, z .1, b ∷ z .2, z .3, ap (λ (k : List ℕ). b ∷ k) (z .4), sym (append-assoc (soFar first v) (b ∷ []) (z .2)) ∙ ap (λ (k : List ℕ). k ++ z .2) (s .1) ∙ z .5, f ∙ z .6 ∙ ap (λ (k : ℕ). ReadDecimal.Value (z .0) (record { at = k })) (omega arith)))
-        (ih u (s .0))
+pub plain-decimal : (n : ℕ) → Plain (decimal n)
+unfolding decimal
+plain-decimal n = plain-digits (suc n) n
 
--- the loop's answer is that of a reader of decimal fields
-pub reads-decimal : (text : List ℕ) (at : ℕ) → ReadsDecimal text at (decimalFrom true 0 at (drop at text))
-unfolding decimalField decimal Found soFar
-reads-decimal text at = record { found = finds; only = ⊎-elim inl (λ z. inr (stands z)) (sound (drop at text) true 0 at (omega arith)) }
-  where
-    place : (w : List ℕ) → at + length w + 1 ≡ at + length (w ++ tab)
-    place w = rw length-append (omega arith)
+pub value-decimal : (x : ℕ) → digitsValue 0 (decimal x) ≡ x
+unfolding decimal
+value-decimal x = value-digits (suc x) x (omega arith)
 
-    finds : (x : ℕ) → x ≤ largest → Stands text at (decimalField x) → decimalFrom true 0 at (drop at text) ≡ ReadDecimal.Value x (record { at = at + length (decimalField x) })
-    finds x h s = rw (s .is, append-assoc, run (suc x) x (omega arith) h at (tabByte ∷ s .rest), from-tab false x (at + length (decimal x)) tabByte (s .rest) refl) (ap (λ (k : ℕ). ReadDecimal.Value x (record { at = k })) (place (decimal x)))
+pub tests-decimal : Tests isDecimal decimal (λ n. n ≤ largest)
+unfolding isDecimal
+tests-decimal = spells-tests (λ n. leb n largest) (digitsValue 0) decimal (λ n. n ≤ largest) (λ x o. le-leb x largest o) (λ x e. leb-true x largest e) (λ x o. value-decimal x) (λ x o. plain-decimal x)
 
-    stands : Found true 0 at (drop at text) → (x : ℕ) × (x ≤ largest) × Stands text at (decimalField x) × (decimalFrom true 0 at (drop at text) ≡ ReadDecimal.Value x (record { at = at + length (decimalField x) }))
-    stands z = (z .0, z .1, record { rest = z .3; is = z .4 ∙ ap (λ (k : List ℕ). k ++ tabByte ∷ z .3) (z .5) ∙ sym (append-assoc (decimal (z .0)) tab (z .3)) }, z .6 ∙ ap (λ (k : ℕ). ReadDecimal.Value (z .0) (record { at = k })) (place (z .2) ∙ ap (λ (k : List ℕ). at + length (k ++ tab)) (z .5)))
+-- ---- the loop
+-- a byte below the digits is never pushed
+push-low : (v b : ℕ) → b < 48 → pushOf v false b ≡ Bad
+push-low v b h = ⊎-elim (λ (z : v ≡ 0). simp (eq-eqb v 0 z)) (λ (z : v ≡ 0 → ⊥). simp (ne-eqb v 0 z, lt-ltb b 48 h)) (eq-or-ne v 0)
 
-pub answers : (text : List ℕ) (at : ℕ) (r : ReadDecimal) → decimalFrom true 0 at (drop at text) ≡ r → ReadsDecimal text at r
-answers text at r e = subst (λ (z : ReadDecimal). ReadsDecimal text at z) e (reads-decimal text at)
+low-end : (b : ℕ) (l : List ℕ) → endsHere (b ∷ l) ≡ true → b < 48
+low-end b l e = split (eqb b tabByte) (λ g. omega (arith, eqb-true b tabByte g)) (λ g. let h : eqb b lfByte ≡ true = simp g at e in omega (arith, eqb-true b lfByte h))
 
--- ---- a turn of the loop, at a place within the text
-module _ (text : List ℕ) (first : Bool) (v at : ℕ) (h : at < length text) where
-  pub at-tab : getD text at 0 ≡ tabByte → decimalFrom first v at (drop at text) ≡ pick first ReadDecimal.Bad (ReadDecimal.Value v (record { at = at + 1 }))
-  at-tab e = rw (drop-cons text at 0 h) (from-tab first v at (getD text at 0) (drop (suc at) text) e)
+module _ (number : ℕ) where
+  unfoldable pub decimalFrom : Bool → ℕ → ℕ → List ℕ → ReadDecimal
+  decimalFrom first v at [] = stoppedAt number first v at []
+  decimalFrom first v at (b ∷ l) = elim (pushOf v first b) [ Value w ↦ decimalFrom false w (at + 1) l | Bad ↦ stoppedAt number first v at (b ∷ l) ]
 
-  pub at-push : (w : ℕ) → (getD text at 0 ≡ tabByte → ⊥) → pushOf v first (getD text at 0) ≡ Value w → decimalFrom first v at (drop at text) ≡ decimalFrom false w (at + 1) (drop (at + 1) text)
-  at-push w n e = rw (drop-cons text at 0 h, from-push first v at (getD text at 0) w (drop (suc at) text) n e, add-one)
+  from-nil : (first : Bool) (v at : ℕ) → decimalFrom first v at [] ≡ stoppedAt number first v at []
+  unfolding decimalFrom
+  from-nil first v at = refl
 
-  pub at-bad : (getD text at 0 ≡ tabByte → ⊥) → pushOf v first (getD text at 0) ≡ Bad → decimalFrom first v at (drop at text) ≡ ReadDecimal.Bad
-  at-bad n e = rw (drop-cons text at 0 h) (from-bad first v at (getD text at 0) (drop (suc at) text) n e)
+  from-push : (first : Bool) (v at b w : ℕ) (l : List ℕ) → pushOf v first b ≡ Value w → decimalFrom first v at (b ∷ l) ≡ decimalFrom false w (at + 1) l
+  unfolding decimalFrom
+  from-push first v at b w l e = rw (e, decimalFrom)
 
-pub at-end : (text : List ℕ) (first : Bool) (v at : ℕ) → length text ≤ at → decimalFrom first v at (drop at text) ≡ ReadDecimal.Bad
-at-end text first v at h = rw (drop-of-length-le text h) (from-nil first v at)
+  from-bad : (first : Bool) (v at b : ℕ) (l : List ℕ) → pushOf v first b ≡ Bad → decimalFrom first v at (b ∷ l) ≡ stoppedAt number first v at (b ∷ l)
+  unfolding decimalFrom
+  from-bad first v at b l e = rw (e, decimalFrom)
+
+  -- a spelled number is read on, digit by digit
+  run : (k n : ℕ) → n < k → n ≤ largest → (at : ℕ) (l : List ℕ) → decimalFrom true 0 at (digitsIn k n ++ l) ≡ decimalFrom false n (at + length (digitsIn k n)) l
+  run zero n p q at l = absurd (omega arith)
+  run (suc k) n p q at l =
+      ⊎-elim (λ (h : n < 10). rw (digits-small k n h) (from-push true 0 at (48 + n) n l (digit-on 0 n h (omega arith) ∙ ap Value (zero-add n))))
+      (λ (h : 10 ≤ n).
+      let d : n / 10 * 10 + n % 10 ≡ n = div-add-mod' n 10 in
+      rw (digits-more k n h, append-assoc, run k (n / 10) (omega arith) (omega arith) at ((48 + n % 10) ∷ l), length-append)
+      (from-push false (n / 10) (at + length (digitsIn k (n / 10))) (48 + n % 10) (n / 10 * 10 + n % 10) l (push-on (n / 10) (n % 10) (omega arith) (omega arith) (omega arith))
+      ∙ rw (d, add-assoc)))
+      (lt-or-le n 10)
+
+  -- and where it ends, it is found
+  at-its-end : (n at : ℕ) (l : List ℕ) → endsHere l ≡ true → decimalFrom false n at l ≡ ReadDecimal.Value n (record { at = at })
+  at-its-end n at [] e = from-nil false n at
+  at-its-end n at (b ∷ l) e = from-bad false n at b l (push-low n b (low-end b l e)) ∙ ap (λ (y : Bool). pick y (ReadDecimal.Value n (record { at = at })) (ReadDecimal.Bad number)) e
+
+  -- what is found is spelled there, and ends
+  Found : Bool → ℕ → ℕ → List ℕ → Type 0
+  Found first v at l = (n : ℕ) × (n ≤ largest) × (w : List ℕ) × (rest : List ℕ) × (l ≡ w ++ rest) × (soFar first v ++ w ≡ decimal n) × (endsHere rest ≡ true) × (decimalFrom first v at l ≡ ReadDecimal.Value n (record { at = at + length w }))
+
+  Sound : Bool → ℕ → ℕ → List ℕ → Type 0
+  Sound first v at l = (decimalFrom first v at l ≡ ReadDecimal.Bad number) ⊎ Found first v at l
+
+  stops : (first : Bool) (v at : ℕ) (l : List ℕ) → v ≤ largest → decimalFrom first v at l ≡ stoppedAt number first v at l → Sound first v at l
+  unfolding Found Sound soFar
+  stops true v at l h e = inl e
+  stops false v at l h e = split (endsHere l)
+      (λ y. inr (v, h, [], l, refl, append-nil (decimal v), y, e ∙ ap (λ (b : Bool). pick b (ReadDecimal.Value v (record { at = at })) (ReadDecimal.Bad number)) y ∙ rw add-zero))
+      (λ y. inl (e ∙ ap (λ (b : Bool). pick b (ReadDecimal.Value v (record { at = at })) (ReadDecimal.Bad number)) y))
+
+  sound : (l : List ℕ) (first : Bool) (v at : ℕ) → v ≤ largest → Sound first v at l
+  unfolding Found Sound soFar
+  sound [] first v at h = stops first v at [] h (from-nil first v at)
+  sound (b ∷ l) first v at h = go (pushOf v first b) refl (λ (u : ℕ). sound l false u (at + 1))
+    where
+      go : (p : Pushed) → pushOf v first b ≡ p → ((u : ℕ) → u ≤ largest → Sound false u (at + 1) l) → Sound first v at (b ∷ l)
+      go Bad e ih = stops first v at (b ∷ l) h (from-bad first v at b l e)
+      go (Value u) e ih =
+          let s = push-says v b u first e in
+          let f = from-push first v at b u l e in
+          ⊎-elim (λ (z : decimalFrom false u (at + 1) l ≡ ReadDecimal.Bad number). inl (f ∙ z))
+          (λ (z : Found false u (at + 1) l).
+          inr (z .0, z .1, b ∷ z .2, z .3, ap (λ (k : List ℕ). b ∷ k) (z .4), sym (append-assoc (soFar first v) (b ∷ []) (z .2)) ∙ ap (λ (k : List ℕ). k ++ z .2) (s .1) ∙ z .5, z .6, f ∙ z .7 ∙ ap (λ (k : ℕ). ReadDecimal.Value (z .0) (record { at = k })) (omega arith)))
+          (ih u (s .0))
+
+  -- the loop's answer is that of a reader of decimals
+  pub reads-decimal : (text : List ℕ) (at : ℕ) → ReadsDecimal number text at (decimalFrom true 0 at (drop at text))
+  unfolding decimal Found Sound soFar
+  reads-decimal text at = record { found = finds; only = ⊎-elim inl (λ z. inr (stands z)) (sound (drop at text) true 0 at (omega arith)) }
+    where
+      finds : (x : ℕ) → (x ≤ largest) × (contentAt text at ≡ decimal x) → Stands text at (decimal x) → decimalFrom true 0 at (drop at text) ≡ ReadDecimal.Value x (record { at = at + length (decimal x) })
+      finds x o s =
+          ap (λ (l : List ℕ). decimalFrom true 0 at l) (s .is) ∙ run (suc x) x (omega arith) (o .0) at (s .rest)
+          ∙ at-its-end x (at + length (decimal x)) (s .rest) (ap endsHere (sym (rest-at text (decimal x) (s .rest) at (s .is))) ∙ content-ends text at (decimal x) (o .1))
+
+      stands : Found true 0 at (drop at text) → (x : ℕ) × ((x ≤ largest) × (contentAt text at ≡ decimal x)) × Stands text at (decimal x) × (decimalFrom true 0 at (drop at text) ≡ ReadDecimal.Value x (record { at = at + length (decimal x) }))
+      stands z =
+          let e : drop at text ≡ decimal (z .0) ++ z .3 = z .4 ∙ ap (λ (k : List ℕ). k ++ z .3) (z .5) in
+          let s : Stands text at (decimal (z .0)) = record { rest = z .3; is = e } in
+          (z .0, (z .1, content-is text at (decimal (z .0)) (plain-decimal (z .0)) s (ap endsHere (rest-at text (decimal (z .0)) (z .3) at e) ∙ z .6)), s, z .7 ∙ ap (λ (k : List ℕ). ReadDecimal.Value (z .0) (record { at = at + length k })) (z .5))
+
+  pub answers : (text : List ℕ) (at : ℕ) (r : ReadDecimal) → decimalFrom true 0 at (drop at text) ≡ r → ReadsDecimal number text at r
+  answers text at r e = subst (λ (z : ReadDecimal). ReadsDecimal number text at z) e (reads-decimal text at)
+
+  -- ---- a turn of the loop, at a place within the text
+  module _ (text : List ℕ) (first : Bool) (v at : ℕ) (h : at < length text) where
+    pub at-push : (w : ℕ) → pushOf v first (getD text at 0) ≡ Value w → decimalFrom first v at (drop at text) ≡ decimalFrom false w (at + 1) (drop (at + 1) text)
+    at-push w e = rw (drop-cons text at 0 h, from-push first v at (getD text at 0) w (drop (suc at) text) e, add-one)
+
+    pub at-bad : pushOf v first (getD text at 0) ≡ Bad → decimalFrom first v at (drop at text) ≡ stoppedAt number first v at (drop at text)
+    at-bad e = ap (λ (l : List ℕ). decimalFrom first v at l) (drop-cons text at 0 h) ∙ from-bad first v at (getD text at 0) (drop (suc at) text) e ∙ ap (λ (l : List ℕ). stoppedAt number first v at l) (sym (drop-cons text at 0 h))
+
+  pub at-end : (text : List ℕ) (first : Bool) (v at : ℕ) → length text ≤ at → decimalFrom first v at (drop at text) ≡ stoppedAt number first v at (drop at text)
+  at-end text first v at h = ap (λ (l : List ℕ). decimalFrom first v at l) (drop-of-length-le text h) ∙ from-nil first v at ∙ ap (λ (l : List ℕ). stoppedAt number first v at l) (sym (drop-of-length-le text h))

@@ -1,23 +1,26 @@
 -- The hex field.
-use Prim.Native.Nat.{ℕ, suc, zero, _+_, _-_, _*_, _/_, _%_, _≤_, _<_, min}
+use Prim.Native.Nat.{ℕ, zero, suc, _+_, _-_, _*_, _/_, _%_, _≤_, _<_, min}
 use native.Mathlib.Omega.{arith}
-use native.Mathlib.Nat.{add-zero, div-add-mod', add-sub-cancel-left}
+use native.Mathlib.Nat.{div-add-mod', add-sub-cancel-left, add-zero}
 use mathlib.Core.Path.{_≡_, refl, sym, ap, _∙_}
 use mathlib.Core.Logic.{⊎-elim}
+use mathlib.Core.Bool.{Bool, true, false}
 use mathlib.Core.List.{List}
 use lib.Dec.{ltb, leb}
 use lib.Arith.{digits-div, digits-mod}
 use lib.ListN.{length, getD}
-use borrow.Author.Tests.{lt-ltb, le-ltb, le-leb, lt-leb, ltb-false, leb-true}
+use borrow.Author.Tests.{lt-ltb, le-ltb, le-leb, lt-leb, ltb-true, ltb-false, leb-true}
 use Rattle.field.specs.declared.hex.Nibble.{Nibble}
 use Rattle.field.specs.declared.hex.Nibble.the-variants.{Value, Bad}
-use Rattle.field.specs.declared.hex.ReadHex.{ReadHex}
+use Rattle.law.specs.Choice.{pick-says, lt-or-le, both}
 use Rattle.law.specs.Words.{pick}
-use Rattle.law.specs.Choice.{pick-says, lt-or-le}
-use Rattle.field.specs.Hex.{hexDigit, hexField}
-use Rattle.field.specs.Readers.{digitValue, letterValue, nibbleOf, ReadsHex}
+use Rattle.field.specs.Ends.{tabByte, lfByte}
+use Rattle.field.specs.Hex.{hexDigit, hexField, hexValue, byteOf, isByteIn}
+use Rattle.field.specs.Readers.{nibbleOf, digitValue, letterValue}
 use Rattle.field.specs.Reads.{Stands}
-use Rattle.field.proofs.Reading.{stands-getD, stands-length, stands-of, none, one}
+use Rattle.field.proofs.Reading.{Got, stands-getD, stands-length, stands-of}
+use Rattle.field.proofs.Answers.{No}
+use Rattle.field.proofs.FieldLaws.{Plain, Tests, spells-tests}
 
 nibble-digit : (d : ℕ) → d < 16 → nibbleOf (hexDigit d) ≡ Value d
 unfolding hexDigit
@@ -55,25 +58,27 @@ module _ (text : List ℕ) (at : ℕ) where
   unfolding hexField
   low x h s = ap nibbleOf (stands-getD text (hexField x) at s 1 (omega arith)) ∙ nibble-digit (x % 16) (omega arith)
 
-  pub hex-short : length text < at + 2 → ReadsHex text at ReadHex.Bad
+  pub hex-short : length text < at + 2 → No hexField (λ n. n < 256) text at
   unfolding hexField
-  hex-short h = none (λ x o s. let l = stands-length text (hexField x) at s (omega arith) in omega arith)
+  hex-short h x o s = let l = stands-length text (hexField x) at s (omega arith) in omega arith
 
-  pub hex-high : nibbleOf (getD text at 0) ≡ Bad → ReadsHex text at ReadHex.Bad
-  hex-high e = none (λ x o s. never (sym e ∙ high x o s))
+  pub hex-high : nibbleOf (getD text at 0) ≡ Bad → No hexField (λ n. n < 256) text at
+  hex-high e x o s = never (sym e ∙ high x o s)
 
-  pub hex-low : nibbleOf (getD text (at + 1) 0) ≡ Bad → ReadsHex text at ReadHex.Bad
-  hex-low e = none (λ x o s. never (sym e ∙ low x o s))
+  pub hex-low : nibbleOf (getD text (at + 1) 0) ≡ Bad → No hexField (λ n. n < 256) text at
+  hex-low e x o s = never (sym e ∙ low x o s)
 
-  pub hex-both : (a b : ℕ) → at + 2 ≤ length text → nibbleOf (getD text at 0) ≡ Value a → nibbleOf (getD text (at + 1) 0) ≡ Value b → ReadsHex text at (ReadHex.Value (a * 16 + b) (record { at = at + 2 }))
+  pub hex-both : (a b : ℕ) → at + 2 ≤ length text → nibbleOf (getD text at 0) ≡ Value a → nibbleOf (getD text (at + 1) 0) ≡ Value b → Got hexField (λ n. n < 256) text at (a * 16 + b) (at + 2)
   unfolding hexField
   hex-both a b h p q =
       let m = nibble-says (getD text at 0) a p in
       let n = nibble-says (getD text (at + 1) 0) b q in
-      one (a * 16 + b) (at + 2) (omega arith)
-      (stands-of text (hexField (a * 16 + b)) at h (bytes m n))
-      refl
-      (λ y o s. let v = value (sym p ∙ high y o s) in let w = value (sym q ∙ low y o s) in let d = div-add-mod' y 16 in omega arith)
+      record {
+        ok = omega arith;
+        stands = stands-of text (hexField (a * 16 + b)) at h (bytes m n);
+        next = refl;
+        only = λ y o s. let v = value (sym p ∙ high y o s) in let w = value (sym q ∙ low y o s) in let d = div-add-mod' y 16 in omega arith;
+      }
     where
       bytes : ((a < 16) × (getD text at 0 ≡ hexDigit a)) → ((b < 16) × (getD text (at + 1) 0 ≡ hexDigit b)) → (i : ℕ) → i < 2 → getD text (at + i) 0 ≡ getD (hexField (a * 16 + b)) i 0
       bytes m n zero l = rw (add-zero, digits-div a (n .0)) (m .1)
@@ -84,16 +89,48 @@ pub nibble-small : (b d : ℕ) → nibbleOf b ≡ Value d → d < 16
 nibble-small b d e = nibble-says b d e .0
 
 -- the byte that two hex digits spell
-digitOf : Nibble → ℕ
+unfoldable pub digitOf : Nibble → ℕ
 digitOf (Value d) = d
 digitOf Bad = 0
 
-pub unhex : ℕ → ℕ → ℕ
+unfoldable pub unhex : ℕ → ℕ → ℕ
 unhex a b = digitOf (nibbleOf a) * 16 + digitOf (nibbleOf b)
 
 pub unhex-is : (x : ℕ) → x < 256 → unhex (hexDigit (x / 16)) (hexDigit (x % 16)) ≡ x
 unfolding unhex digitOf
 unhex-is x h = rw (nibble-digit (x / 16) (omega arith), nibble-digit (x % 16) (omega arith)) (div-add-mod' x 16)
+
+-- ---- the content
+value-digit : (d : ℕ) → d < 16 → hexValue (hexDigit d) ≡ d
+unfolding hexDigit
+value-digit d h =
+    ⊎-elim (λ (p : d < 10). simp (lt-ltb d 10 p, lt-ltb (48 + d) 97 (omega arith), add-sub-cancel-left 48 d))
+    (λ (p : 10 ≤ d). simp (le-ltb d 10 p, le-ltb (87 + d) 97 (omega arith), add-sub-cancel-left 87 d))
+    (lt-or-le d 10)
+
+byte-of : (x : ℕ) → x < 256 → byteOf (hexField x) ≡ x
+unfolding byteOf hexField
+byte-of x h = rw (value-digit (x / 16) (omega arith), value-digit (x % 16) (omega arith)) (div-add-mod' x 16)
+
+digit-plain : (d : ℕ) → (hexDigit d ≡ tabByte → ⊥) × (hexDigit d ≡ lfByte → ⊥)
+unfolding hexDigit
+digit-plain d =
+    ⊎-elim (λ (p : d < 10). let z : hexDigit d ≡ 48 + d = simp (lt-ltb d 10 p) in (λ e. omega arith, λ e. omega arith))
+    (λ (p : 10 ≤ d). let z : hexDigit d ≡ 87 + d = simp (le-ltb d 10 p) in (λ e. omega arith, λ e. omega arith))
+    (lt-or-le d 10)
+
+pub plain-hex : (x : ℕ) → Plain (hexField x)
+unfolding hexField Plain
+plain-hex x = (digit-plain (x / 16) .0, digit-plain (x / 16) .1, (digit-plain (x % 16) .0, digit-plain (x % 16) .1, tt))
+
+-- the bytes that a test allows
+pub tests-byte : (t : ℕ → Bool) (Ok : ℕ → Type 0) → ((x : ℕ) → Ok x → (x < 256) × (t x ≡ true)) → ((x : ℕ) → x < 256 → t x ≡ true → Ok x) → Tests (isByteIn t) hexField Ok
+unfolding isByteIn
+tests-byte t Ok a b = spells-tests (λ n. pick (ltb n 256) (t n) false) byteOf hexField Ok
+    (λ x o. let z = a x o in simp (lt-ltb x 256 (z .0), z .1))
+    (λ x e. let z = both (ltb x 256) (t x) e in b x (ltb-true x 256 (z .0)) (z .1))
+    (λ x o. byte-of x (a x o .0))
+    (λ x o. plain-hex x)
 
 -- a hex digit is a digit or a letter: of its two values one is below 16, and of any other byte none
 module _ (b d l v : ℕ) (digit : d ≡ digitValue b) (letter : l ≡ letterValue b) (less : v ≡ min d l) where

@@ -1,6 +1,8 @@
--- Laws of readers' answers, of each field, and of what is put together from fields.
+-- Laws of readers' answers, of a line's fields, of each kind of field, and of what is put together from fields.
 pub mod Reading
 pub mod Answers
+pub mod FieldLaws
+pub mod Sequence
 pub mod DecimalLaws
 pub mod HexLaws
 pub mod WordLaws

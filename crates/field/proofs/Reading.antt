@@ -1,7 +1,7 @@
 -- Laws of words that stand in a text, and of readers' answers.
 use Prim.Native.Nat.{ℕ, _+_, _≤_, _<_}
 use native.Mathlib.Omega.{arith}
-use native.Mathlib.Nat.{add-assoc, add-zero}
+use native.Mathlib.Nat.{add-zero}
 use mathlib.Core.Path.{_≡_, refl, sym, ap, subst, _∙_}
 use mathlib.Core.Logic.{inl, inr, ⊎-elim}
 use mathlib.Core.List.{List, [], _++_, append-assoc}
@@ -63,11 +63,26 @@ pub record Got {A : Type 0} (spell : A → List ℕ) (Ok : A → Type 0) (text :
   pub next : p ≡ at + length (spell x)
   pub only : (y : A) → Ok y → Stands text at (spell y) → x ≡ y
 
-module _ {A R : Type 0} {spell : A → List ℕ} {Ok : A → Type 0} {value : A → ℕ → R} {bad : R} {text : List ℕ} {at : ℕ} (t : Tells value bad) where
-  -- a bad answer: nothing is spelled here
-  pub got-none : {r : R} → Reads spell Ok value bad text at r → r ≡ bad → (y : A) → Ok y → Stands text at (spell y) → ⊥
-  got-none d e y o s = t .apart y _ (sym e ∙ d .found y o s)
+-- what is known is the promise
+pub got-is : {A R : Type 0} {spell : A → List ℕ} {Ok : A → Type 0} {value : A → ℕ → R} {bad : R} {text : List ℕ} {at : ℕ} {x : A} {p : ℕ} → Got spell Ok text at x p → Reads spell Ok value bad text at (value x p)
+got-is {x} {p} g = one x p (g .ok) (g .stands) (g .next) (g .only)
 
+-- an answer that is no value: nothing is spelled here, and the answer is the promised refusal
+module _ {A R : Type 0} {spell : A → List ℕ} {Ok : A → Type 0} {value : A → ℕ → R} {bad other : R} {text : List ℕ} {at : ℕ} (t : Tells value other) {r : R} (d : Reads spell Ok value bad text at r) (e : r ≡ other) where
+  pub got-none : (y : A) → Ok y → Stands text at (spell y) → ⊥
+  got-none y o s = t .apart y _ (sym e ∙ d .found y o s)
+
+  pub got-bad : r ≡ bad
+  got-bad = ⊎-elim (λ z. z) (λ z. absurd (t .apart (z .0) _ (sym e ∙ z .3))) (d .only)
+
+-- the answer, and the promised refusal, in another form
+pub as-told : {A R : Type 0} {spell : A → List ℕ} {Ok : A → Type 0} {value : A → ℕ → R} {bad : R} {text : List ℕ} {at : ℕ} {r s : R} → r ≡ s → Reads spell Ok value bad text at s → Reads spell Ok value bad text at r
+as-told {spell} {Ok} {value} {bad} {text} {at} e d = subst (λ z. Reads spell Ok value bad text at z) (sym e) d
+
+pub as-bad : {A R : Type 0} {spell : A → List ℕ} {Ok : A → Type 0} {value : A → ℕ → R} {bad other : R} {text : List ℕ} {at : ℕ} {r : R} → other ≡ bad → Reads spell Ok value other text at r → Reads spell Ok value bad text at r
+as-bad {spell} {Ok} {value} {text} {at} {r} e d = subst (λ z. Reads spell Ok value z text at r) e d
+
+module _ {A R : Type 0} {spell : A → List ℕ} {Ok : A → Type 0} {value : A → ℕ → R} {bad : R} {text : List ℕ} {at : ℕ} (t : Tells value bad) where
   pub got-one : {r : R} → Reads spell Ok value bad text at r → (x : A) (p : ℕ) → r ≡ value x p → Got spell Ok text at x p
   got-one {r} d x p e = ⊎-elim (λ (z : r ≡ bad). absurd (t .apart x p (sym z ∙ e)))
       (λ z. let q = t .same _ _ _ _ (sym e ∙ z .3) in
@@ -82,37 +97,9 @@ module _ {A R : Type 0} {spell : A → List ℕ} {Ok : A → Type 0} {value : A 
   -- the answer is determined
   pub determined : (r r′ : R) → Reads spell Ok value bad text at r → Reads spell Ok value bad text at r′ → r ≡ r′
   determined r r′ d d′ = ⊎-elim
-      (λ (z : r ≡ bad). ⊎-elim (λ (z′ : r′ ≡ bad). z ∙ sym z′) (λ z′. absurd (got-none d z (z′ .0) (z′ .1) (z′ .2))) (d′ .only))
+      (λ (z : r ≡ bad). ⊎-elim (λ (z′ : r′ ≡ bad). z ∙ sym z′) (λ z′. absurd (got-none t d z (z′ .0) (z′ .1) (z′ .2))) (d′ .only))
       (λ z. z .3 ∙ sym (d′ .found (z .0) (z .1) (z .2)))
       (d .only)
-
--- ---- one field after another. Each y : A is spelled as a first field, f y, and a tail.
-module _ {A B R : Type 0} {spell : A → List ℕ} {Ok : A → Type 0} {value : A → ℕ → R} {bad : R} {text : List ℕ} {at : ℕ} {spell₁ : B → List ℕ} {Ok₁ : B → Type 0}
-    (f : A → B) (tail : A → List ℕ) (parts : (y : A) → spell y ≡ spell₁ (f y) ++ tail y) (ok₁ : (y : A) → Ok y → Ok₁ (f y)) where
-  -- no first field stands here
-  pub seq-none : ((y : B) → Ok₁ y → Stands text at (spell₁ y) → ⊥) → Reads spell Ok value bad text at bad
-  seq-none n = none (λ y o s. n (f y) (ok₁ y o) (stands-left text (spell₁ (f y)) (tail y) at (subst (λ (l : List ℕ). Stands text at l) (parts y) s)))
-
-  -- the first field is b, and the rest was read from p on
-  pub seq-then : {b : B} {p : ℕ} {r : R} → Got spell₁ Ok₁ text at b p → Reads tail (λ y. Ok y × (b ≡ f y)) value bad text p r → Reads spell Ok value bad text at r
-  seq-then {b} {p} {r} g d = record { found = finds; only = ⊎-elim inl (λ z. inr (z .0, z .1 .0, stands (z .0) (z .1 .1) (z .2), z .3 ∙ ap (λ (k : ℕ). value (z .0) k) (place (z .0) (z .1 .1)))) (d .only) }
-    where
-      start : (y : A) → b ≡ f y → p ≡ at + length (spell₁ (f y))
-      start y e = g .next ∙ ap (λ (k : B). at + length (spell₁ k)) e
-
-      place : (y : A) → b ≡ f y → p + length (tail y) ≡ at + length (spell y)
-      place y e = ap (λ (k : ℕ). k + length (tail y)) (start y e) ∙ add-assoc at (length (spell₁ (f y))) (length (tail y)) ∙ ap (λ (k : ℕ). at + k) (sym (length-append (spell₁ (f y)) (tail y)) ∙ ap length (sym (parts y)))
-
-      finds : (y : A) → Ok y → Stands text at (spell y) → r ≡ value y (at + length (spell y))
-      finds y o s =
-          let t = subst (λ (l : List ℕ). Stands text at l) (parts y) s in
-          let e = g .only (f y) (ok₁ y o) (stands-left text (spell₁ (f y)) (tail y) at t) in
-          d .found y (o, e) (subst (λ (k : ℕ). Stands text k (tail y)) (sym (start y e)) (stands-right text (spell₁ (f y)) (tail y) at t)) ∙ ap (λ (k : ℕ). value y k) (place y e)
-
-      stands : (y : A) → b ≡ f y → Stands text p (tail y) → Stands text at (spell y)
-      stands y e t =
-          subst (λ (l : List ℕ). Stands text at l) (sym (parts y))
-          (stands-join text (spell₁ (f y)) (tail y) at (subst (λ (k : B). Stands text at (spell₁ k)) e (g .stands)) (subst (λ (k : ℕ). Stands text k (tail y)) (start y e) t))
 
 -- nothing more to read
 pub seq-end : {A R : Type 0} {Ok : A → Type 0} {value : A → ℕ → R} {bad : R} {text : List ℕ} {p : ℕ} (x : A) → Ok x → ((y : A) → Ok y → x ≡ y) → Reads (λ _. []) Ok value bad text p (value x p)

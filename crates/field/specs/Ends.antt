@@ -5,8 +5,11 @@ use mathlib.Core.List.{List, [], _∷_}
 abbrev pub tabByte : ℕ
 tabByte = 9
 
+abbrev pub lfByte : ℕ
+lfByte = 10
+
 abbrev pub tab : List ℕ
 tab = tabByte ∷ []
 
 abbrev pub lf : List ℕ
-lf = 10 ∷ []
+lf = lfByte ∷ []

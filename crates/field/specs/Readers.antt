@@ -1,21 +1,85 @@
 -- What the readers of single fields promise, and the tables of the code that they use.
 use Prim.Native.Nat.{_*_, _+_, _-_, _<_, _≤_, ℕ}
-use mathlib.Core.Bool.{Bool}
-use mathlib.Core.List.{List}
+use mathlib.Core.Path.{_≡_}
+use mathlib.Core.Bool.{Bool, true}
+use mathlib.Core.List.{List, [], _∷_}
 use lib.Dec.{eqb, leb, ltb}
+use lib.ListN.{drop}
 use Rattle.law.specs.Words.{pick}
 use Rattle.field.specs.declared.decimal.ReadDecimal.{ReadDecimal}
 use Rattle.field.specs.declared.decimal.Pushed.{Pushed}
+use Rattle.field.specs.declared.ending.FieldEnd.{FieldEnd}
+use Rattle.field.specs.declared.ending.ReadEnd.{ReadEnd}
+use Rattle.field.specs.declared.word.ReadWord.{ReadWord}
 use Rattle.field.specs.Reads.{Reads}
-use Rattle.field.specs.Decimal.{decimalField, largest}
+use Rattle.field.specs.Ends.{tabByte, lfByte}
+use Rattle.field.specs.Fields.{fieldsOf, firstOf}
+use Rattle.field.specs.Decimal.{decimal, largest}
 use Rattle.field.specs.declared.digit.ReadDigit.{ReadDigit}
 use Rattle.field.specs.Digit.{DigitOk, digitField}
 use Rattle.field.specs.declared.hex.ReadHex.{ReadHex}
 use Rattle.field.specs.declared.hex.Nibble.{Nibble}
 use Rattle.field.specs.Hex.{hexField}
 
-abbrev pub ReadsDecimal : List ℕ → ℕ → ReadDecimal → Type 0
-ReadsDecimal = Reads decimalField (λ n. n ≤ largest) (λ n p. ReadDecimal.Value n (record { at = p })) ReadDecimal.Bad
+-- A reader of what a field begins with refuses with the field's own number n.
+abbrev pub ReadsHex : ℕ → List ℕ → ℕ → ReadHex → Type 0
+ReadsHex n = Reads hexField (λ x. x < 256) (λ x p. ReadHex.Value x (record { at = p })) (ReadHex.Bad n)
+
+abbrev pub ReadsDigit : ℕ → ℕ → ℕ → List ℕ → ℕ → ReadDigit → Type 0
+ReadsDigit low high n = Reads digitField (DigitOk low high) (λ d p. ReadDigit.Value d (record { at = p })) (ReadDigit.Bad n)
+
+abbrev pub ReadsWord : List ℕ → ℕ → List ℕ → ℕ → ReadWord → Type 0
+ReadsWord w n = Reads {A = Unit {0}} (λ _. w) (λ _. Unit {0}) (λ _ p. ReadWord.Here (record { at = p })) (ReadWord.Bad n)
+
+-- the content of the field that starts at a place of a text
+unfoldable pub contentAt : List ℕ → ℕ → List ℕ
+contentAt text at = firstOf (fieldsOf (drop at text))
+
+-- a decimal is read by the field's whole content
+abbrev pub ReadsDecimal : ℕ → List ℕ → ℕ → ReadDecimal → Type 0
+ReadsDecimal n text at = Reads decimal (λ x. (x ≤ largest) × (contentAt text at ≡ decimal x)) (λ x p. ReadDecimal.Value x (record { at = p })) (ReadDecimal.Bad n) text at
+
+-- a content ends here: with a tab, the LF or the text's end
+abbrev pub endsHere : List ℕ → Bool
+endsHere [] = true
+endsHere (b ∷ l) = pick (eqb b tabByte) true (eqb b lfByte)
+
+abbrev pub endByte : FieldEnd → ℕ
+endByte FieldEnd.Tab = tabByte
+endByte FieldEnd.Lf = lfByte
+
+-- the number told where an end is not there: the next field's where the content ends here, the field's own where it goes on
+abbrev pub endNumber : ℕ → List ℕ → ℕ → ℕ
+endNumber n text at = pick (endsHere (drop at text)) (n + 1) n
+
+abbrev pub ReadsEnd : FieldEnd → ℕ → List ℕ → ℕ → ReadEnd → Type 0
+ReadsEnd e n text at = Reads {A = Unit {0}} (λ _. endByte e ∷ []) (λ _. Unit {0}) (λ _ p. ReadEnd.Here (record { at = p })) (ReadEnd.Bad (endNumber n text at)) text at
+
+-- ---- the number that a refusal tells
+abbrev pub decimalFault : ReadDecimal → ℕ
+decimalFault (ReadDecimal.Value x c) = 0
+decimalFault (ReadDecimal.Bad n) = n
+
+abbrev pub hexFault : ReadHex → ℕ
+hexFault (ReadHex.Value x c) = 0
+hexFault (ReadHex.Bad n) = n
+
+abbrev pub digitFault : ReadDigit → ℕ
+digitFault (ReadDigit.Value x c) = 0
+digitFault (ReadDigit.Bad n) = n
+
+abbrev pub wordFault : ReadWord → ℕ
+wordFault (ReadWord.Here c) = 0
+wordFault (ReadWord.Bad n) = n
+
+abbrev pub endFault : ReadEnd → ℕ
+endFault (ReadEnd.Here c) = 0
+endFault (ReadEnd.Bad n) = n
+
+-- ---- the tables
+-- the answer where no digit can be read on from l, of which v was read or nothing yet
+abbrev pub stoppedAt : ℕ → Bool → ℕ → ℕ → List ℕ → ReadDecimal
+stoppedAt n first v at l = pick first (ReadDecimal.Bad n) (pick (endsHere l) (ReadDecimal.Value v (record { at = at })) (ReadDecimal.Bad n))
 
 -- the number v with the digit b after it
 abbrev pub digitOn : ℕ → ℕ → Pushed
@@ -27,12 +91,6 @@ digitOn v b =
 -- the same, where a leading zero takes no further digit
 abbrev pub pushOf : ℕ → Bool → ℕ → Pushed
 pushOf v first b = pick first (digitOn 0 b) (pick (eqb v 0) Pushed.Bad (digitOn v b))
-
-abbrev pub ReadsDigit : ℕ → ℕ → List ℕ → ℕ → ReadDigit → Type 0
-ReadsDigit low high = Reads digitField (DigitOk low high) (λ d p. ReadDigit.Value d (record { at = p })) ReadDigit.Bad
-
-abbrev pub ReadsHex : List ℕ → ℕ → ReadHex → Type 0
-ReadsHex = Reads hexField (λ n. n < 256) (λ n p. ReadHex.Value n (record { at = p })) ReadHex.Bad
 
 -- what the byte b stands for as a hex digit
 abbrev pub nibbleOf : ℕ → Nibble

@@ -1,33 +1,46 @@
-// One digit in a range, with no end byte of its own.
-ghost use Rattle.field.specs.Readers.{ReadsDigit};
+// One digit in a range.
+ghost use mathlib.Core.Path.{_≡_};
+ghost use Rattle.field.specs.Readers.{digitFault, ReadsDigit};
 use crate::Cursor;
 
+// Value: with the place after the digit. Bad: the field's number, since it does not begin with such a digit.
 pub enum ReadDigit {
     Value(u8, Cursor),
-    Bad,
+    Bad(u32),
 }
 
-// The digit at a place, if it is one from low to high.
-pub fn read_digit(text: &[u8], c: Cursor, low: u8, high: u8) -> ReadDigit
-    ensures { λ r. ⌜ ReadsDigit low high (now (text .entry)) (c .at) r ⌝ }
+// The number that a refusal tells.
+pub fn digit_fault(r: ReadDigit) -> u32
+    ensures { λ n. ⌜ n ≡ digitFault r ⌝ }
+{
+    match r {
+        ReadDigit::Value(_, _) => 0,
+        ReadDigit::Bad(number) => number,
+    }
+}
+
+// The digit from low to high that the line's field of that number begins with.
+pub fn read_digit(text: &[u8], c: Cursor, low: u8, high: u8, number: u8) -> ReadDigit
+    ensures { λ r. ⌜ ReadsDigit low high number (now (text .entry)) (c .at) r ⌝ }
 {
     let at = c.at;
+    let bad = ReadDigit::Bad(number as u32);
     if text.len() <= at {
-        return ReadDigit::Bad;
+        return bad;
     }
     let byte = text[at];
     if byte < 48 {
-        return ReadDigit::Bad;
+        return bad;
     }
     if 57 < byte {
-        return ReadDigit::Bad;
+        return bad;
     }
     let digit = byte - 48;
     if digit < low {
-        return ReadDigit::Bad;
+        return bad;
     }
     if high < digit {
-        return ReadDigit::Bad;
+        return bad;
     }
     ReadDigit::Value(digit, Cursor { at: at + 1 })
 }

@@ -1,12 +1,23 @@
 // Two lower-case hex digits.
 ghost use mathlib.Core.Path.{_≡_};
 ghost use Prim.Native.Nat.{min};
-ghost use Rattle.field.specs.Readers.{digitValue, letterValue, nibbleOf, ReadsHex};
+ghost use Rattle.field.specs.Readers.{digitValue, letterValue, nibbleOf, hexFault, ReadsHex};
 use crate::Cursor;
 
+// Value: with the place after the digits. Bad: the field's number, since it does not begin with two hex digits.
 pub enum ReadHex {
     Value(u8, Cursor),
-    Bad,
+    Bad(u32),
+}
+
+// The number that a refusal tells.
+pub fn hex_fault(r: ReadHex) -> u32
+    ensures { λ n. ⌜ n ≡ hexFault r ⌝ }
+{
+    match r {
+        ReadHex::Value(_, _) => 0,
+        ReadHex::Bad(number) => number,
+    }
 }
 
 pub enum Nibble {
@@ -59,22 +70,23 @@ fn nibble_of(byte: u8) -> Nibble
     Nibble::Bad
 }
 
-// The byte that two hex digits at a place spell.
-pub fn read_hex(text: &[u8], c: Cursor) -> ReadHex
-    ensures { λ r. ⌜ ReadsHex (now (text .entry)) (c .at) r ⌝ }
+// The byte whose two hex digits the line's field of that number begins with.
+pub fn read_hex(text: &[u8], c: Cursor, number: u8) -> ReadHex
+    ensures { λ r. ⌜ ReadsHex number (now (text .entry)) (c .at) r ⌝ }
 {
     let at = c.at;
+    let bad = ReadHex::Bad(number as u32);
     if text.len() <= at {
-        return ReadHex::Bad;
+        return bad;
     }
     if text.len() - at < 2 {
-        return ReadHex::Bad;
+        return bad;
     }
     let Nibble::Value(high) = nibble_of(text[at]) else {
-        return ReadHex::Bad;
+        return bad;
     };
     let Nibble::Value(low) = nibble_of(text[at + 1]) else {
-        return ReadHex::Bad;
+        return bad;
     };
     ReadHex::Value(high * 16 + low, Cursor { at: at + 2 })
 }

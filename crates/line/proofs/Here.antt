@@ -1,5 +1,5 @@
 -- Whether a record stands at a place of a text is known, and whether a board stands at its front.
-use Prim.Native.Nat.{ℕ, suc, _+_, _≤_}
+use Prim.Native.Nat.{ℕ, suc}
 use native.Mathlib.Omega.{arith}
 use mathlib.Core.Path.{_≡_, refl, sym, ap, subst, _∙_}
 use mathlib.Core.Logic.{inl, inr, ⊎-elim}
@@ -13,17 +13,13 @@ use Rattle.record.specs.declared.EepromEvent.{EepromEvent}
 use Rattle.record.specs.declared.Event.{Event}
 use Rattle.record.specs.declared.Board.{Board}
 use Rattle.record.specs.declared.Record.{Record}
-use Rattle.field.specs.Decimal.{decimalField, largest}
+use Rattle.field.specs.Decimal.{largest}
 use Rattle.field.specs.Reads.{Stands}
-use Rattle.field.proofs.Reading.{stands-left, stands-right, stands-join, got-none}
-use Rattle.field.proofs.Answers.{tells-decimal}
-use Rattle.field.proofs.DecimalLaws.{reads-decimal}
 use Rattle.line.specs.ChannelF.{FlashOk}
 use Rattle.line.specs.ChannelE.{EepromOk}
 use Rattle.line.specs.Boards.{spelledBoard, BoardOk}
-use Rattle.line.specs.Records.{spelledEvent, spelled, EventOk, RecordOk}
-use Rattle.line.proofs.RecordLaws.{eventAt, event-law}
-use Rattle.line.proofs.Theorems.{Known, and-known, lt-known, boardAt, board-law, board-known}
+use Rattle.line.specs.Records.{spelled, EventOk, RecordOk}
+use Rattle.line.proofs.Theorems.{Known, and-known, lt-known, le-known, recordAt, record-law, boardAt, board-law, board-known}
 
 -- ---- whether bytes stand at the front of a list
 Front : List ℕ → List ℕ → Type 0
@@ -70,56 +66,25 @@ event-known (Event.Flash e) = flash-known e
 event-known (Event.Eeprom e) = eeprom-known e
 event-known (Event.Line e) = inl tt
 
--- an event stands at the place, and is in range
-EventHere : List ℕ → ℕ → Type 0
-EventHere text at = (e : Event) × EventOk e × Stands text at (spelledEvent e)
+-- ---- what stands at a place, of a kind whose values are found from their bytes
+module _ {A : Type 0} (spell : A → List ℕ) (Ok : A → Type 0) (decode : List ℕ → A) (law : (x : A) → Ok x → (rest : List ℕ) → decode (spell x ++ rest) ≡ x) (known : (x : A) → Known (Ok x)) (text : List ℕ) (at : ℕ) where
+  here-known : Known ((x : A) × Ok x × Stands text at (spell x))
+  here-known = ⊎-elim (λ z. inl (decode (drop at text), z .0, z .1)) (λ n. inr (λ z. n (found z))) (and-known (known (decode (drop at text))) (stands-known text (spell (decode (drop at text))) at))
+    where
+      found : (x : A) × Ok x × Stands text at (spell x) → Ok (decode (drop at text)) × Stands text at (spell (decode (drop at text)))
+      found z = subst (λ (x : A). Ok x × Stands text at (spell x)) (sym (ap decode (z .2 .is) ∙ law (z .0) (z .1) (z .2 .rest))) (z .1, z .2)
 
-event-here : (text : List ℕ) (at : ℕ) → Known (EventHere text at)
-unfolding EventHere
-event-here text at = ⊎-elim (λ z. inl (x, z .0, z .1)) (λ n. inr (λ z. n (here z))) (and-known (event-known x) (stands-known text (spelledEvent x) at))
-  where
-    x : Event
-    x = eventAt (drop at text)
-
-    here : EventHere text at → EventOk x × Stands text at (spelledEvent x)
-    here z = subst (λ (e : Event). EventOk e × Stands text at (spelledEvent e)) (sym (ap eventAt (z .2 .is) ∙ event-law (z .0) (z .1) (z .2 .rest))) (z .1, z .2)
-
--- ---- records
 -- a record stands at the place, and is in range
 unfoldable pub RecordHere : List ℕ → ℕ → Type 0
 RecordHere text at = (r : Record) × RecordOk r × Stands text at (spelled r)
 
-module _ (text : List ℕ) (at : ℕ) where
-  after : (n : ℕ) → n ≤ largest → Stands text at (decimalField n) → Known (EventHere text (at + length (decimalField n))) → Known (RecordHere text at)
-  unfolding RecordHere EventHere spelled
-  after n h s k = ⊎-elim (λ z. inl (record { stamp = n; event = z .0 }, (h, z .1), stands-join text (decimalField n) (spelledEvent (z .0)) at s (z .2)))
-      (λ m. inr (λ z. m (z .0 .event, z .1 .1, rest z)))
-      k
-    where
-      rest : (z : RecordHere text at) → Stands text (at + length (decimalField n)) (spelledEvent (z .0 .event))
-      rest z =
-          let d = reads-decimal text at in
-          let e = tells-decimal .same _ _ _ _ (sym (d .found n h s) ∙ d .found (z .0 .stamp) (z .1 .0) (stands-left text (decimalField (z .0 .stamp)) (spelledEvent (z .0 .event)) at (z .2))) .0 in
-          subst (λ (j : ℕ). Stands text (at + length (decimalField j)) (spelledEvent (z .0 .event))) (sym e) (stands-right text (decimalField (z .0 .stamp)) (spelledEvent (z .0 .event)) at (z .2))
+pub record-here : (text : List ℕ) (at : ℕ) → Known (RecordHere text at)
+unfolding RecordHere
+record-here = here-known spelled RecordOk recordAt record-law (λ r. and-known (le-known (r .stamp) largest) (event-known (r .event)))
 
-  pub record-here : Known (RecordHere text at)
-  unfolding RecordHere spelled
-  record-here =
-      let d = reads-decimal text at in
-      ⊎-elim (λ e. inr (λ z. got-none tells-decimal d e (z .0 .stamp) (z .1 .0) (stands-left text (decimalField (z .0 .stamp)) (spelledEvent (z .0 .event)) at (z .2))))
-      (λ z. after (z .0) (z .1) (z .2) (event-here text (at + length (decimalField (z .0)))))
-      (d .only)
-
--- ---- boards
 -- a board stands at the front, and is in range
 abbrev pub BoardHere : List ℕ → Type 0
 BoardHere text = (b : Board) × BoardOk b × Stands text 0 (spelledBoard b)
 
 pub board-here : (text : List ℕ) → Known (BoardHere text)
-board-here text = ⊎-elim (λ z. inl (x, z .0, z .1)) (λ n. inr (λ z. n (here z))) (and-known (board-known x) (stands-known text (spelledBoard x) 0))
-  where
-    x : Board
-    x = boardAt text
-
-    here : BoardHere text → BoardOk x × Stands text 0 (spelledBoard x)
-    here z = subst (λ (b : Board). BoardOk b × Stands text 0 (spelledBoard b)) (sym (ap boardAt (z .2 .is) ∙ board-law (z .0) (z .1) (z .2 .rest))) (z .1, z .2)
+board-here text = here-known spelledBoard BoardOk boardAt board-law board-known text 0

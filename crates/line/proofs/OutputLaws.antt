@@ -15,7 +15,7 @@ use Rattle.record.specs.declared.Event.{Event}
 use Rattle.record.specs.declared.Record.{Record}
 use Rattle.record.specs.declared.Board.{Board}
 use Rattle.field.specs.declared.spelling.Spelling.{Spelling}
-use Rattle.field.specs.Decimal.{largest, decimal, decimalField}
+use Rattle.field.specs.Decimal.{largest, decimal}
 use Rattle.field.specs.Ends.{tab}
 use Rattle.field.specs.Hex.{hexField}
 use Rattle.field.specs.Digit.{digitField}
@@ -90,8 +90,8 @@ event-length (Event.Eeprom e) = omega (arith, eeprom-length e)
 event-length (Event.Line e) = omega (arith, line-length e)
 
 parts : (r : Record) → length (spelled r) ≡ length (decimal (r .stamp)) + 1 + length (spelledEvent (r .event))
-unfolding spelled decimalField
-parts r = length-append (decimalField (r .stamp)) (spelledEvent (r .event)) ∙ ap (λ (k : ℕ). k + length (spelledEvent (r .event))) (length-append (decimal (r .stamp)) tab)
+unfolding spelled
+parts r = omega (arith, length-append (decimal (r .stamp)) (tab ++ spelledEvent (r .event)))
 
 -- a record's line has 7 to 21 bytes
 pub spelled-length-min : (r : Record) → r .stamp ≤ largest → 7 ≤ length (spelled r)

@@ -2,29 +2,32 @@
 use Prim.Native.Nat.{ℕ, _+_, _-_, _%_, _/_, _≤_, _<_}
 use native.Mathlib.Omega.{arith}
 use native.Mathlib.Nat.{add-sub-cancel-left}
-use mathlib.Core.Path.{_≡_, refl, sym, ap, subst, _∙_}
+use mathlib.Core.Path.{_≡_, refl, sym, ap, _∙_}
 use mathlib.Core.Logic.{_⊎_, _↔_, inl, inr, ⊎-elim}
-use mathlib.Core.List.{List, _++_}
+use mathlib.Core.List.{List, _∷_, _++_, append-assoc}
 use lib.ListN.{length, drop, getD}
+use lib.Seq.{drop-drop, drop-append-seam}
 use lib.Dec.{eqb}
 use borrow.Author.Tests.{eqb-true, eqb-false}
 use Rattle.law.specs.Choice.{split, lt-or-le}
 use Rattle.record.specs.Answers.{answerNumber}
 use Rattle.record.specs.declared.Record.{Record}
 use Rattle.record.specs.declared.Board.{Board}
-use Rattle.field.specs.Decimal.{decimalField}
+use Rattle.field.specs.Decimal.{decimal, digitsValue}
+use Rattle.field.specs.Ends.{tabByte, tab}
+use Rattle.field.specs.Fields.{fieldsOf, firstOf}
 use Rattle.field.specs.Hex.{hexField}
 use Rattle.field.specs.Digit.{digitField}
 use Rattle.field.specs.Reads.{Stands}
-use Rattle.field.proofs.Reading.{stands-left, stands-right, by-inverse, determined}
-use Rattle.field.proofs.Answers.{tells-decimal}
-use Rattle.field.proofs.DecimalLaws.{reads-decimal}
+use Rattle.field.proofs.Reading.{by-inverse, determined}
+use Rattle.field.proofs.FieldLaws.{fields-plain}
+use Rattle.field.proofs.DecimalLaws.{plain-decimal, value-decimal}
 use Rattle.field.proofs.HexLaws.{unhex, unhex-is}
 use Rattle.line.specs.declared.records.ReadRecord.{ReadRecord}
 use Rattle.line.specs.declared.boards.ReadBoard.{ReadBoard}
 use Rattle.line.specs.declared.output.Written.{Written}
 use Rattle.line.specs.Output.{Wrote}
-use Rattle.line.specs.Records.{spelledEvent, spelled, EventOk, RecordOk, ReadsRecord, recordAnswer}
+use Rattle.line.specs.Records.{spelledEvent, spelled, RecordOk, ReadsRecord, recordAnswer}
 use Rattle.line.specs.Boards.{spelledBoard, spelledPlaces, BoardOk, ReadsBoard, WroteBoard, boardAnswer}
 use Rattle.line.proofs.Apart.{tells-record, tells-board}
 use Rattle.line.proofs.RecordLaws.{eventAt, event-law}
@@ -35,21 +38,35 @@ use Rattle.line.proofs.Whole.{paper-one, wrote-determined, spelled-if-a
 pub record-determined : (text : List ℕ) (at : ℕ) (r r′ : ReadRecord) → ReadsRecord text at r → ReadsRecord text at r′ → r ≡ r′
 record-determined text at = determined tells-record
 
+-- the record that a line spells, found from its bytes
+unfoldable pub recordAt : List ℕ → Record
+recordAt l = record { stamp = digitsValue 0 (firstOf (fieldsOf l)); event = eventAt (drop (length (firstOf (fieldsOf l)) + 1) l) }
+
+pub record-law : (r : Record) → RecordOk r → (rest : List ℕ) → recordAt (spelled r ++ rest) ≡ r
+unfolding recordAt spelled
+record-law r o rest = λ i. record { stamp = stamps i; event = events i }
+  where
+    bytes : spelled r ++ rest ≡ decimal (r .stamp) ++ (tabByte ∷ (spelledEvent (r .event) ++ rest))
+    bytes = append-assoc (decimal (r .stamp)) (tab ++ spelledEvent (r .event)) rest
+
+    first : firstOf (fieldsOf (spelled r ++ rest)) ≡ decimal (r .stamp)
+    first = ap (λ (l : List ℕ). firstOf (fieldsOf l)) bytes ∙ ap firstOf (fields-plain (decimal (r .stamp)) (tabByte ∷ (spelledEvent (r .event) ++ rest)) (plain-decimal (r .stamp)) refl)
+
+    stamps : digitsValue 0 (firstOf (fieldsOf (spelled r ++ rest))) ≡ r .stamp
+    stamps = ap (digitsValue 0) first ∙ value-decimal (r .stamp)
+
+    past : drop (length (firstOf (fieldsOf (spelled r ++ rest))) + 1) (spelled r ++ rest) ≡ spelledEvent (r .event) ++ rest
+    past =
+        (λ i. drop (length (first i) + 1) (bytes i))
+        ∙ sym (drop-drop 1 (length (decimal (r .stamp))) (decimal (r .stamp) ++ (tabByte ∷ (spelledEvent (r .event) ++ rest))))
+        ∙ ap (λ (l : List ℕ). drop 1 l) (drop-append-seam (decimal (r .stamp)) (tabByte ∷ (spelledEvent (r .event) ++ rest)))
+
+    events : eventAt (drop (length (firstOf (fieldsOf (spelled r ++ rest))) + 1) (spelled r ++ rest)) ≡ r .event
+    events = ap eventAt past ∙ event-law (r .event) (o .1) rest
+
 -- at one place of a text stands at most one record
 pub record-same : (text : List ℕ) (at : ℕ) (r r′ : Record) → RecordOk r → RecordOk r′ → Stands text at (spelled r) → Stands text at (spelled r′) → r ≡ r′
-unfolding spelled
-record-same text at r r′ o o′ s s′ = λ i. record { stamp = stamps i; event = events i }
-  where
-    stamps : r .stamp ≡ r′ .stamp
-    stamps =
-        let d = reads-decimal text at in
-        tells-decimal .same _ _ _ _ (sym (d .found (r .stamp) (o .0) (stands-left text _ (spelledEvent (r .event)) at s)) ∙ d .found (r′ .stamp) (o′ .0) (stands-left text _ (spelledEvent (r′ .event)) at s′)) .0
-
-    events : r .event ≡ r′ .event
-    events =
-        by-inverse spelledEvent EventOk eventAt event-law (r .event) (o .1) (stands-right text (decimalField (r .stamp)) (spelledEvent (r .event)) at s)
-        (r′ .event) (o′ .1)
-        (subst (λ (n : ℕ). Stands text (at + length (decimalField n)) (spelledEvent (r′ .event))) (sym stamps) (stands-right text (decimalField (r′ .stamp)) (spelledEvent (r′ .event)) at s′))
+record-same text at r r′ o o′ s s′ = by-inverse spelled RecordOk recordAt record-law r o s r′ o′ s′
 
 -- a line, whatever comes after it, spells one record: the spelling is one-to-one
 pub one-record : (r r′ : Record) (rest rest′ : List ℕ) → RecordOk r → RecordOk r′ → spelled r ++ rest ≡ spelled r′ ++ rest′ → r ≡ r′
@@ -65,12 +82,12 @@ module _ (line : List ℕ) (a : ReadRecord) (r : Record) (d : ReadsRecord line 0
 
 -- a record that was written reads back as itself
 pub record-reads-back : (r : Record) (old new : List ℕ) (n : ℕ) (a : ReadRecord) → RecordOk r → Wrote (spelled r) old new (Written.Length n) → ReadsRecord new 0 a → a ≡ ReadRecord.Value r (record { at = n })
-record-reads-back = reads-back tells-record
+record-reads-back r old new n a o w d = reads-back tells-record r old new n a o w d
 
 -- a record's line that was read and then written gives the same bytes
 pub record-same-bytes : (line old new : List ℕ) (a : ReadRecord) (r : Record) (w : Written) → ReadsRecord line 0 a → a ≡ ReadRecord.Value r (record { at = length line })
     → Wrote (spelled r) old new w → length line ≤ length old → new ≡ line ++ drop (length line) old
-record-same-bytes = same-bytes tells-record
+record-same-bytes line old new a r w d e p h = same-bytes tells-record line old new a r w d e p h
 
 -- by the paper's numbers: 3 exactly where no record's line stands
 pub record-three : (text : List ℕ) (at : ℕ) (a : ReadRecord) → ReadsRecord text at a → (answerNumber (recordAnswer a) ≡ 3) ↔ ((r : Record) → RecordOk r → Stands text at (spelled r) → ⊥)
@@ -125,7 +142,7 @@ all-known p q r = ⊎-elim (λ x. ⊎-elim (λ y. ⊎-elim (λ z. inl (x, y, z))
 eq-known : (m n : ℕ) → Known (m ≡ n)
 eq-known m n = split (eqb m n) (λ e. inl (eqb-true m n e)) (λ e. inr (eqb-false m n e))
 
-le-known : (m n : ℕ) → Known (m ≤ n)
+pub le-known : (m n : ℕ) → Known (m ≤ n)
 le-known m n = ⊎-elim (λ (h : n < m). inr (λ (l : m ≤ n). omega arith)) inl (lt-or-le n m)
 
 pub lt-known : (m n : ℕ) → Known (m < n)

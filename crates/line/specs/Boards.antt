@@ -2,6 +2,7 @@
 use Prim.Native.Nat.{ℕ}
 use mathlib.Core.Path.{_≡_}
 use mathlib.Core.List.{List, _++_}
+use lib.ListN.{drop}
 use Rattle.record.specs.declared.Answer.{Answer}
 use Rattle.record.specs.declared.Answer.the-variants.{Settled, BadLine}
 use Rattle.record.specs.declared.Board.{Board}
@@ -12,6 +13,7 @@ use Rattle.field.specs.Digit.{digitField, DigitOk}
 use Rattle.field.specs.Reads.{Reads}
 use Rattle.line.specs.declared.boards.ReadBoard.{ReadBoard}
 use Rattle.line.specs.declared.output.Written.{Written}
+use Rattle.line.specs.Places.{firstBadOfBoard}
 use Rattle.line.specs.Words.{wordBoard}
 use Rattle.line.specs.Output.{onPaper, Wrote}
 
@@ -30,13 +32,20 @@ spelledBoard b = wordBoard ++ (tab ++ (hexField (b .status) ++ (tab ++ spelledPl
 abbrev pub BoardOk : Board → Type 0
 BoardOk b = StatusOk (b .status) × PlacesOk (b .sector, b .address)
 
-abbrev pub ReadsBoard : List ℕ → ℕ → ReadBoard → Type 0
-ReadsBoard = Reads spelledBoard BoardOk (λ b p. ReadBoard.Value b (record { at = p })) ReadBoard.Bad
+-- where no board's line stands, and by the paper's answers and fields: as of a record
+abbrev pub badBoard : List ℕ → ℕ → ReadBoard
+badBoard text at = ReadBoard.Bad (firstBadOfBoard (drop at text))
 
--- by the paper's answers: 3 where no board's line stands, 0 where one does
+abbrev pub ReadsBoard : List ℕ → ℕ → ReadBoard → Type 0
+ReadsBoard text at = Reads spelledBoard BoardOk (λ b p. ReadBoard.Value b (record { at = p })) (badBoard text at) text at
+
 abbrev pub boardAnswer : ReadBoard → Answer
-boardAnswer ReadBoard.Bad = BadLine
+boardAnswer (ReadBoard.Bad n) = BadLine
 boardAnswer (ReadBoard.Value b next) = Settled
+
+abbrev pub boardFault : ReadBoard → ℕ
+boardFault (ReadBoard.Bad n) = n
+boardFault (ReadBoard.Value b next) = 0
 
 -- a board is written: out of range is refusal 9 and leaves the output alone, else it is its line that is written
 pub record WroteBoard (b : Board) (old new : List ℕ) (r : Written) : Type 0 where

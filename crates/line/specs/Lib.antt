@@ -1,5 +1,7 @@
 -- How a line is spelled, and what it is to read one and to write one.
 pub mod Words
+pub mod Places
+pub mod TypedWrong
 pub mod ChannelF
 pub mod ChannelE
 pub mod ChannelL

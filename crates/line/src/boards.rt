@@ -2,82 +2,101 @@
 ghost use mathlib.Core.Path.{_≡_};
 ghost use Rattle.law.specs.Deciding.{Decides};
 ghost use Rattle.field.specs.Spelling.{noBytes, putAll};
-ghost use Rattle.line.specs.Boards.{spelledBoard, BoardOk, ReadsBoard, WroteBoard};
+ghost use Rattle.line.specs.Boards.{spelledBoard, BoardOk, ReadsBoard, WroteBoard, boardFault};
 ghost use Rattle.line.specs.Readers.{ReadsStatus, ReadsPlaces};
+use crate::numbers::ADDRESS;
+use crate::numbers::BOARD;
+use crate::numbers::SECTOR;
+use crate::numbers::STATUS;
 use crate::output::Written;
 use field::Cursor;
+use field::FieldEnd;
 use field::ReadDigit;
+use field::ReadEnd;
 use field::ReadHex;
 use field::ReadWord;
 use field::Spelling;
 use record::Board;
 
-pub enum ReadPlaces {
-    Value(u8, u8, Cursor),
-    Bad,
-}
-
+// Bad: the number of the first bad field.
 pub enum ReadBoard {
     Value(Board, Cursor),
-    Bad,
+    Bad(u32),
+}
+
+// The number that a refusal tells.
+pub fn board_fault(r: ReadBoard) -> u32
+    ensures { λ n. ⌜ n ≡ boardFault r ⌝ }
+{
+    match r {
+        ReadBoard::Value(_, _) => 0,
+        ReadBoard::Bad(number) => number,
+    }
 }
 
 // Only bits 7, 3 and 2 may be set.
 fn read_status(text: &[u8], c: Cursor) -> ReadHex
     ensures { λ r. ⌜ ReadsStatus (now (text .entry)) (c .at) r ⌝ }
 {
-    let ReadHex::Value(x, next) = field::read_hex(text, c) else {
-        return ReadHex::Bad;
+    let hex = field::read_hex(text, c, STATUS);
+    let ReadHex::Value(x, next) = hex else {
+        return hex;
     };
     if !record::status_ok(x) {
-        return ReadHex::Bad;
+        return ReadHex::Bad(STATUS as u32);
     }
     ReadHex::Value(x, next)
 }
 
 // The sector and the address, to the line's end.
-fn read_places(text: &[u8], c: Cursor) -> ReadPlaces
-    ensures { λ r. ⌜ ReadsPlaces (now (text .entry)) (c .at) r ⌝ }
+fn read_places(text: &[u8], c: Cursor, status: u8) -> ReadBoard
+    ensures { λ r. ⌜ ReadsPlaces status (now (text .entry)) (c .at) r ⌝ }
 {
-    let ReadDigit::Value(sector, c1) = field::read_digit(text, c, 1, 4) else {
-        return ReadPlaces::Bad;
+    let first = field::read_digit(text, c, 1, 4, SECTOR);
+    let ReadDigit::Value(sector, c1) = first else {
+        return ReadBoard::Bad(field::digit_fault(first));
     };
-    let ReadWord::Here(c2) = field::read_word(text, c1, b"\t") else {
-        return ReadPlaces::Bad;
+    let tab = field::read_end(text, c1, FieldEnd::Tab, SECTOR);
+    let ReadEnd::Here(c2) = tab else {
+        return ReadBoard::Bad(field::end_fault(tab));
     };
-    let ReadDigit::Value(address, c3) = field::read_digit(text, c2, 0, 7) else {
-        return ReadPlaces::Bad;
+    let second = field::read_digit(text, c2, 0, 7, ADDRESS);
+    let ReadDigit::Value(address, c3) = second else {
+        return ReadBoard::Bad(field::digit_fault(second));
     };
-    let ReadWord::Here(c4) = field::read_word(text, c3, b"\n") else {
-        return ReadPlaces::Bad;
+    let lf = field::read_end(text, c3, FieldEnd::Lf, ADDRESS);
+    let ReadEnd::Here(c4) = lf else {
+        return ReadBoard::Bad(field::end_fault(lf));
     };
-    ReadPlaces::Value(sector, address, c4)
+    let board = Board {
+        status,
+        sector,
+        address,
+    };
+    ReadBoard::Value(board, c4)
 }
 
 // The board whose line stands at a place, and the place after its LF.
 pub fn read_board(text: &[u8], c: Cursor) -> ReadBoard
     ensures { λ r. ⌜ ReadsBoard (now (text .entry)) (c .at) r ⌝ }
 {
-    let ReadWord::Here(c1) = field::read_word(text, c, b"board\t") else {
-        return ReadBoard::Bad;
+    let word = field::read_word(text, c, b"board", BOARD);
+    let ReadWord::Here(c1) = word else {
+        return ReadBoard::Bad(field::word_fault(word));
     };
-    let ReadHex::Value(status, c2) = read_status(text, c1) else {
-        return ReadBoard::Bad;
+    let tab = field::read_end(text, c1, FieldEnd::Tab, BOARD);
+    let ReadEnd::Here(c2) = tab else {
+        return ReadBoard::Bad(field::end_fault(tab));
     };
-    let ReadWord::Here(c3) = field::read_word(text, c2, b"\t") else {
-        return ReadBoard::Bad;
+    let hex = read_status(text, c2);
+    let ReadHex::Value(status, c3) = hex else {
+        return ReadBoard::Bad(field::hex_fault(hex));
     };
-    let ReadPlaces::Value(sector, address, last) = read_places(text, c3) else {
-        return ReadBoard::Bad;
+    let end = field::read_end(text, c3, FieldEnd::Tab, STATUS);
+    let ReadEnd::Here(c4) = end else {
+        return ReadBoard::Bad(field::end_fault(end));
     };
-    ReadBoard::Value(
-        Board {
-            status,
-            sector,
-            address,
-        },
-        last,
-    )
+    read_places(text, c4, status)
 }
 
 fn in_range(b: Board) -> bool

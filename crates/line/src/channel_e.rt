@@ -2,76 +2,69 @@
 ghost use mathlib.Core.Path.{_≡_};
 ghost use Rattle.field.specs.Spelling.{putAll};
 ghost use Rattle.line.specs.ChannelE.{spelledEeprom};
-ghost use Rattle.line.specs.Readers.{spelledBit, ReadsBit, ReadsData, ReadsEeprom};
+ghost use Rattle.line.specs.Readers.{spelledBit, ReadsData, ReadsEeprom};
+use crate::events::ReadEvent;
+use crate::numbers::EVENT;
+use crate::numbers::FIRST;
+use crate::numbers::SECOND;
 use field::Cursor;
+use field::FieldEnd;
+use field::ReadDigit;
+use field::ReadEnd;
 use field::ReadHex;
 use field::ReadWord;
 use field::Spelling;
 use record::EepromEvent;
+use record::Event;
 
-pub enum ReadBit {
-    Value(bool, Cursor),
-    Bad,
-}
-
-pub enum ReadData {
-    Value(u8, bool, Cursor),
-    Bad,
-}
-
-pub enum ReadEeprom {
-    Value(EepromEvent, Cursor),
-    Bad,
-}
-
-// A tab, the acknowledge bit and the line's end: 0 acknowledged, 1 not.
-fn read_bit(text: &[u8], c: Cursor) -> ReadBit
-    ensures { λ r. ⌜ ReadsBit (now (text .entry)) (c .at) r ⌝ }
-{
-    if let ReadWord::Here(n) = field::read_word(text, c, b"\t0\n") {
-        return ReadBit::Value(false, n);
-    }
-    let ReadWord::Here(n) = field::read_word(text, c, b"\t1\n") else {
-        return ReadBit::Bad;
-    };
-    ReadBit::Value(true, n)
-}
-
-// The byte and its acknowledge bit, to the line's end.
-fn read_data(text: &[u8], c: Cursor) -> ReadData
+// The byte and its acknowledge bit (0 acknowledged, 1 not), to the line's end.
+fn read_data(text: &[u8], c: Cursor) -> ReadEvent
     ensures { λ r. ⌜ ReadsData (now (text .entry)) (c .at) r ⌝ }
 {
-    let ReadHex::Value(byte, c1) = field::read_hex(text, c) else {
-        return ReadData::Bad;
+    let first = field::read_hex(text, c, FIRST);
+    let ReadHex::Value(byte, c1) = first else {
+        return ReadEvent::Bad(field::hex_fault(first));
     };
-    let ReadBit::Value(ack, c2) = read_bit(text, c1) else {
-        return ReadData::Bad;
+    let tab = field::read_end(text, c1, FieldEnd::Tab, FIRST);
+    let ReadEnd::Here(c2) = tab else {
+        return ReadEvent::Bad(field::end_fault(tab));
     };
-    ReadData::Value(byte, ack, c2)
+    let second = field::read_digit(text, c2, 0, 1, SECOND);
+    let ReadDigit::Value(bit, c3) = second else {
+        return ReadEvent::Bad(field::digit_fault(second));
+    };
+    let lf = field::read_end(text, c3, FieldEnd::Lf, SECOND);
+    let ReadEnd::Here(c4) = lf else {
+        return ReadEvent::Bad(field::end_fault(lf));
+    };
+    ReadEvent::Value(Event::Eeprom(EepromEvent::Byte(byte, bit == 1)), c4)
 }
 
-pub fn read_eeprom(text: &[u8], c: Cursor) -> ReadEeprom
+// The most frequent word, `b`, is tried first.
+pub fn read_eeprom(text: &[u8], c: Cursor) -> ReadEvent
     ensures { λ r. ⌜ ReadsEeprom (now (text .entry)) (c .at) r ⌝ }
 {
-    if let ReadWord::Here(n) = field::read_word(text, c, b"sta\n") {
-        return ReadEeprom::Value(EepromEvent::Start, n);
+    if let ReadWord::Here(n) = field::read_word(text, c, b"b", EVENT) {
+        let tab = field::read_end(text, n, FieldEnd::Tab, EVENT);
+        let ReadEnd::Here(m) = tab else {
+            return ReadEvent::Bad(field::end_fault(tab));
+        };
+        return read_data(text, m);
     }
-    if let ReadWord::Here(n) = field::read_word(text, c, b"cut\n") {
-        return ReadEeprom::Value(EepromEvent::Cut, n);
+    if let ReadWord::Here(n) = field::read_word(text, c, b"sta", EVENT) {
+        return crate::events::read_last(text, n, Event::Eeprom(EepromEvent::Start));
     }
-    if let ReadWord::Here(n) = field::read_word(text, c, b"sto\n") {
-        return ReadEeprom::Value(EepromEvent::Stop, n);
+    if let ReadWord::Here(n) = field::read_word(text, c, b"sto", EVENT) {
+        return crate::events::read_last(text, n, Event::Eeprom(EepromEvent::Stop));
     }
-    if let ReadWord::Here(n) = field::read_word(text, c, b"end\n") {
-        return ReadEeprom::Value(EepromEvent::End, n);
+    if let ReadWord::Here(n) = field::read_word(text, c, b"end", EVENT) {
+        return crate::events::read_last(text, n, Event::Eeprom(EepromEvent::End));
     }
-    let ReadWord::Here(n) = field::read_word(text, c, b"b\t") else {
-        return ReadEeprom::Bad;
+    let word = field::read_word(text, c, b"cut", EVENT);
+    let ReadWord::Here(n) = word else {
+        return ReadEvent::Bad(field::word_fault(word));
     };
-    let ReadData::Value(byte, ack, last) = read_data(text, n) else {
-        return ReadEeprom::Bad;
-    };
-    ReadEeprom::Value(EepromEvent::Byte(byte, ack), last)
+    crate::events::read_last(text, n, Event::Eeprom(EepromEvent::Cut))
 }
 
 fn put_bit(s: Spelling, ack: bool) -> Spelling

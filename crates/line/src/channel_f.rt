@@ -3,63 +3,67 @@ ghost use mathlib.Core.Path.{_≡_};
 ghost use Rattle.field.specs.Spelling.{putAll};
 ghost use Rattle.line.specs.ChannelF.{spelledFlash};
 ghost use Rattle.line.specs.Readers.{ReadsPair, ReadsFlash};
+use crate::events::ReadEvent;
+use crate::numbers::EVENT;
+use crate::numbers::FIRST;
+use crate::numbers::SECOND;
 use field::Cursor;
+use field::FieldEnd;
+use field::ReadEnd;
 use field::ReadHex;
 use field::ReadWord;
 use field::Spelling;
+use record::Event;
 use record::FlashEvent;
 
-pub enum ReadPair {
-    Value(u8, u8, Cursor),
-    Bad,
-}
-
-pub enum ReadFlash {
-    Value(FlashEvent, Cursor),
-    Bad,
-}
-
 // SI and SO, to the line's end.
-fn read_pair(text: &[u8], c: Cursor) -> ReadPair
+fn read_pair(text: &[u8], c: Cursor) -> ReadEvent
     ensures { λ r. ⌜ ReadsPair (now (text .entry)) (c .at) r ⌝ }
 {
-    let ReadHex::Value(si, c1) = field::read_hex(text, c) else {
-        return ReadPair::Bad;
+    let first = field::read_hex(text, c, FIRST);
+    let ReadHex::Value(si, c1) = first else {
+        return ReadEvent::Bad(field::hex_fault(first));
     };
-    let ReadWord::Here(c2) = field::read_word(text, c1, b"\t") else {
-        return ReadPair::Bad;
+    let tab = field::read_end(text, c1, FieldEnd::Tab, FIRST);
+    let ReadEnd::Here(c2) = tab else {
+        return ReadEvent::Bad(field::end_fault(tab));
     };
-    let ReadHex::Value(so, c3) = field::read_hex(text, c2) else {
-        return ReadPair::Bad;
+    let second = field::read_hex(text, c2, SECOND);
+    let ReadHex::Value(so, c3) = second else {
+        return ReadEvent::Bad(field::hex_fault(second));
     };
-    let ReadWord::Here(c4) = field::read_word(text, c3, b"\n") else {
-        return ReadPair::Bad;
+    let lf = field::read_end(text, c3, FieldEnd::Lf, SECOND);
+    let ReadEnd::Here(c4) = lf else {
+        return ReadEvent::Bad(field::end_fault(lf));
     };
-    ReadPair::Value(si, so, c4)
+    ReadEvent::Value(Event::Flash(FlashEvent::Byte(si, so)), c4)
 }
 
-pub fn read_flash(text: &[u8], c: Cursor) -> ReadFlash
+// The most frequent word, `x`, is tried first.
+pub fn read_flash(text: &[u8], c: Cursor) -> ReadEvent
     ensures { λ r. ⌜ ReadsFlash (now (text .entry)) (c .at) r ⌝ }
 {
-    if let ReadWord::Here(n) = field::read_word(text, c, b"sel\n") {
-        return ReadFlash::Value(FlashEvent::Select, n);
+    if let ReadWord::Here(n) = field::read_word(text, c, b"x", EVENT) {
+        let tab = field::read_end(text, n, FieldEnd::Tab, EVENT);
+        let ReadEnd::Here(m) = tab else {
+            return ReadEvent::Bad(field::end_fault(tab));
+        };
+        return read_pair(text, m);
     }
-    if let ReadWord::Here(n) = field::read_word(text, c, b"cut\n") {
-        return ReadFlash::Value(FlashEvent::Cut, n);
+    if let ReadWord::Here(n) = field::read_word(text, c, b"sel", EVENT) {
+        return crate::events::read_last(text, n, Event::Flash(FlashEvent::Select));
     }
-    if let ReadWord::Here(n) = field::read_word(text, c, b"des\n") {
-        return ReadFlash::Value(FlashEvent::Deselect, n);
+    if let ReadWord::Here(n) = field::read_word(text, c, b"des", EVENT) {
+        return crate::events::read_last(text, n, Event::Flash(FlashEvent::Deselect));
     }
-    if let ReadWord::Here(n) = field::read_word(text, c, b"end\n") {
-        return ReadFlash::Value(FlashEvent::End, n);
+    if let ReadWord::Here(n) = field::read_word(text, c, b"end", EVENT) {
+        return crate::events::read_last(text, n, Event::Flash(FlashEvent::End));
     }
-    let ReadWord::Here(n) = field::read_word(text, c, b"x\t") else {
-        return ReadFlash::Bad;
+    let word = field::read_word(text, c, b"cut", EVENT);
+    let ReadWord::Here(n) = word else {
+        return ReadEvent::Bad(field::word_fault(word));
     };
-    let ReadPair::Value(si, so, last) = read_pair(text, n) else {
-        return ReadFlash::Bad;
-    };
-    ReadFlash::Value(FlashEvent::Byte(si, so), last)
+    crate::events::read_last(text, n, Event::Flash(FlashEvent::Cut))
 }
 
 pub fn put_flash(s: Spelling, e: FlashEvent) -> Spelling

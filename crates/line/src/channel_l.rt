@@ -3,32 +3,31 @@ ghost use mathlib.Core.Path.{_≡_};
 ghost use Rattle.field.specs.Spelling.{putAll};
 ghost use Rattle.line.specs.ChannelL.{spelledLine};
 ghost use Rattle.line.specs.Readers.{ReadsLine};
+use crate::events::ReadEvent;
+use crate::numbers::EVENT;
 use field::Cursor;
 use field::ReadWord;
 use field::Spelling;
+use record::Event;
 use record::LineEvent;
 
-pub enum ReadLine {
-    Value(LineEvent, Cursor),
-    Bad,
-}
-
-pub fn read_line(text: &[u8], c: Cursor) -> ReadLine
+pub fn read_line(text: &[u8], c: Cursor) -> ReadEvent
     ensures { λ r. ⌜ ReadsLine (now (text .entry)) (c .at) r ⌝ }
 {
-    if let ReadWord::Here(n) = field::read_word(text, c, b"on\n") {
-        return ReadLine::Value(LineEvent::SupplyOn, n);
+    if let ReadWord::Here(n) = field::read_word(text, c, b"on", EVENT) {
+        return crate::events::read_last(text, n, Event::Line(LineEvent::SupplyOn));
     }
-    if let ReadWord::Here(n) = field::read_word(text, c, b"off\n") {
-        return ReadLine::Value(LineEvent::SupplyOff, n);
+    if let ReadWord::Here(n) = field::read_word(text, c, b"off", EVENT) {
+        return crate::events::read_last(text, n, Event::Line(LineEvent::SupplyOff));
     }
-    if let ReadWord::Here(n) = field::read_word(text, c, b"lock\n") {
-        return ReadLine::Value(LineEvent::LockOn, n);
+    if let ReadWord::Here(n) = field::read_word(text, c, b"lock", EVENT) {
+        return crate::events::read_last(text, n, Event::Line(LineEvent::LockOn));
     }
-    let ReadWord::Here(n) = field::read_word(text, c, b"free\n") else {
-        return ReadLine::Bad;
+    let word = field::read_word(text, c, b"free", EVENT);
+    let ReadWord::Here(n) = word else {
+        return ReadEvent::Bad(field::word_fault(word));
     };
-    ReadLine::Value(LineEvent::LockOff, n)
+    crate::events::read_last(text, n, Event::Line(LineEvent::LockOff))
 }
 
 pub fn put_line(s: Spelling, e: LineEvent) -> Spelling

@@ -1,64 +1,82 @@
 // A record's line: stamp, channel, event.
 ghost use mathlib.Core.Path.{_≡_};
 ghost use Rattle.field.specs.Spelling.{putAll};
-ghost use Rattle.line.specs.Records.{spelledEvent, spelled, ReadsRecord};
+ghost use Rattle.line.specs.Records.{spelledEvent, spelled, ReadsRecord, recordFault};
 ghost use Rattle.line.specs.Readers.{ReadsEvent};
 ghost use Rattle.line.specs.Output.{Wrote};
-use crate::channel_e::ReadEeprom;
-use crate::channel_f::ReadFlash;
-use crate::channel_l::ReadLine;
+use crate::events::ReadEvent;
+use crate::numbers::CHANNEL;
+use crate::numbers::STAMP;
 use crate::output::Written;
 use field::Cursor;
+use field::FieldEnd;
 use field::ReadDecimal;
+use field::ReadEnd;
 use field::ReadWord;
 use field::Spelling;
 use record::Event;
 use record::Record;
 
-pub enum ReadEvent {
-    Value(Event, Cursor),
-    Bad,
-}
-
+// Bad: the number of the first bad field.
 pub enum ReadRecord {
     Value(Record, Cursor),
-    Bad,
+    Bad(u32),
+}
+
+// The number that a refusal tells.
+pub fn record_fault(r: ReadRecord) -> u32
+    ensures { λ n. ⌜ n ≡ recordFault r ⌝ }
+{
+    match r {
+        ReadRecord::Value(_, _) => 0,
+        ReadRecord::Bad(number) => number,
+    }
 }
 
 // The channel and its event, to the line's end. Another channel's event word is no event of this one.
 fn read_event(text: &[u8], c: Cursor) -> ReadEvent
     ensures { λ r. ⌜ ReadsEvent (now (text .entry)) (c .at) r ⌝ }
 {
-    if let ReadWord::Here(n) = field::read_word(text, c, b"F\t") {
-        let ReadFlash::Value(e, last) = crate::channel_f::read_flash(text, n) else {
-            return ReadEvent::Bad;
+    if let ReadWord::Here(n) = field::read_word(text, c, b"F", CHANNEL) {
+        let tab = field::read_end(text, n, FieldEnd::Tab, CHANNEL);
+        let ReadEnd::Here(m) = tab else {
+            return ReadEvent::Bad(field::end_fault(tab));
         };
-        return ReadEvent::Value(Event::Flash(e), last);
+        return crate::channel_f::read_flash(text, m);
     }
-    if let ReadWord::Here(n) = field::read_word(text, c, b"E\t") {
-        let ReadEeprom::Value(e, last) = crate::channel_e::read_eeprom(text, n) else {
-            return ReadEvent::Bad;
+    if let ReadWord::Here(n) = field::read_word(text, c, b"E", CHANNEL) {
+        let tab = field::read_end(text, n, FieldEnd::Tab, CHANNEL);
+        let ReadEnd::Here(m) = tab else {
+            return ReadEvent::Bad(field::end_fault(tab));
         };
-        return ReadEvent::Value(Event::Eeprom(e), last);
+        return crate::channel_e::read_eeprom(text, m);
     }
-    let ReadWord::Here(n) = field::read_word(text, c, b"L\t") else {
-        return ReadEvent::Bad;
+    let word = field::read_word(text, c, b"L", CHANNEL);
+    let ReadWord::Here(n) = word else {
+        return ReadEvent::Bad(field::word_fault(word));
     };
-    let ReadLine::Value(e, last) = crate::channel_l::read_line(text, n) else {
-        return ReadEvent::Bad;
+    let tab = field::read_end(text, n, FieldEnd::Tab, CHANNEL);
+    let ReadEnd::Here(m) = tab else {
+        return ReadEvent::Bad(field::end_fault(tab));
     };
-    ReadEvent::Value(Event::Line(e), last)
+    crate::channel_l::read_line(text, m)
 }
 
 // The record whose line stands at a place, and the place after its LF.
 pub fn read_record(text: &[u8], c: Cursor) -> ReadRecord
     ensures { λ r. ⌜ ReadsRecord (now (text .entry)) (c .at) r ⌝ }
 {
-    let ReadDecimal::Value(stamp, c1) = field::read_decimal(text, c) else {
-        return ReadRecord::Bad;
+    let decimal = field::read_decimal(text, c, STAMP);
+    let ReadDecimal::Value(stamp, c1) = decimal else {
+        return ReadRecord::Bad(field::decimal_fault(decimal));
     };
-    let ReadEvent::Value(event, last) = read_event(text, c1) else {
-        return ReadRecord::Bad;
+    let tab = field::read_end(text, c1, FieldEnd::Tab, STAMP);
+    let ReadEnd::Here(c2) = tab else {
+        return ReadRecord::Bad(field::end_fault(tab));
+    };
+    let read = read_event(text, c2);
+    let ReadEvent::Value(event, last) = read else {
+        return ReadRecord::Bad(crate::events::event_fault(read));
     };
     ReadRecord::Value(Record { stamp, event }, last)
 }

@@ -1,11 +1,13 @@
 -- No line of a listing is longer than a spelling has room for, so a line that was put together holds just its bytes.
 use Prim.Native.Nat.{ℕ, _≤_}
 use native.Mathlib.Omega.{arith}
-use mathlib.Core.Path.{_≡_, refl, sym, subst}
+use mathlib.Core.Path.{_≡_, refl, sym, ap, subst}
+use mathlib.Core.Bool.{true}
 use mathlib.Core.List.{List, []}
 use lib.Dec.{eqb}
 use lib.ListN.{length, length-append}
-use Rattle.law.specs.Choice.{of-both}
+use borrow.Author.Tests.{eqb-true, leb-true}
+use Rattle.law.specs.Choice.{of-both, split}
 use Rattle.record.specs.declared.Reply.{Reply}
 use Rattle.record.specs.declared.Reply.the-variants.{NotPlayed, Silent, Byte, Ack, NoAck, Starts, Ends, NoCycle}
 use Rattle.record.specs.declared.Match.{Match}
@@ -15,7 +17,9 @@ use Rattle.field.specs.Decimal.{largest}
 use Rattle.field.specs.Hex.{hexField}
 use Rattle.field.specs.Spelling.{noBytes, putAll}
 use Rattle.field.specs.Room.{room}
+use Rattle.field.proofs.DecimalLaws.{decimal-digit}
 use Rattle.field.proofs.SpellingLaws.{Holds, holds-all, digits-count}
+use Rattle.listing.specs.Bytes.{isRefusal}
 use Rattle.listing.specs.Lines.{heading, byteText, replyText, matchText, recordLine, settledLine, stopLine, lastLine, refusedLine}
 
 -- the heading has 23 bytes
@@ -49,9 +53,16 @@ module _ (a b : ℕ) (small : a ≤ largest) (little : b ≤ largest) where
   unfolding stopLine
   stop-length = simp length-append (omega (arith, digits-count a small, digits-count b little))
 
-  pub refused-length : length (refusedLine a b) ≤ room
-  unfolding refusedLine
-  refused-length = simp length-append (omega (arith, digits-count a small, digits-count b little))
+-- a refusal's number is one digit, so a line and a field of ten digits each just leave it room
+refusal-small : (a : ℕ) → isRefusal a ≡ true → a ≤ 5
+unfolding isRefusal
+refusal-small a t = split (eqb a 0) (λ e. let z = eqb-true a 0 e in omega arith) (λ e. leb-true a 5 (simp e at t))
+
+pub refused-length : (a b c : ℕ) → isRefusal a ≡ true → b ≤ largest → c ≤ largest → length (refusedLine a b c) ≤ room
+unfolding refusedLine
+refused-length a b c t little few =
+    let s = refusal-small a t in
+    simp length-append (omega (arith, ap length (decimal-digit a (omega arith)), digits-count b little, digits-count c few))
 
 settled-length : (a : ℕ) → a ≤ largest → length (settledLine a) ≤ room
 unfolding settledLine

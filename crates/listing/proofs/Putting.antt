@@ -8,7 +8,7 @@ use Rattle.field.specs.declared.spelling.Spelling.{Spelling}
 use Rattle.field.specs.Decimal.{decimal}
 use Rattle.field.specs.Hex.{hexField}
 use Rattle.field.specs.Spelling.{noBytes, putAll}
-use Rattle.line.proofs.After.{put-on}
+use Rattle.line.proofs.Put.{put-on}
 use Rattle.listing.specs.Lines.{heading, byteText, replyText, matchText, recordLine, settledLine, stopLine, refusedLine}
 
 -- three pieces
@@ -39,16 +39,16 @@ pub put-settled : (count : ℕ) {s s1 s2 r : Spelling} → s ≡ noBytes → s1 
 unfolding settledLine
 put-settled count {s} n e f g = from _ n (put-three s (115 ∷ 101 ∷ 116 ∷ 116 ∷ 108 ∷ 101 ∷ 100 ∷ 9 ∷ []) (decimal count) (10 ∷ []) e f g)
 
--- a word with its tab, a number, a tab, a number, LF
-put-two : (w : List ℕ) (a b : ℕ) {s s1 s2 s3 s4 r : Spelling} → s ≡ noBytes → s1 ≡ putAll s w → s2 ≡ putAll s1 (decimal a) → s3 ≡ putAll s2 (9 ∷ []) → s4 ≡ putAll s3 (decimal b) → r ≡ putAll s4 (10 ∷ [])
-    → r ≡ putAll noBytes (w ++ (decimal a ++ (9 ∷ (decimal b ++ (10 ∷ [])))))
-put-two w a b {s} {s1} {s2} n e1 e2 e3 e4 e5 = from _ n (put-on s w _ e1 (put-on s1 (decimal a) _ e2 (put-three s2 (9 ∷ []) (decimal b) (10 ∷ []) e3 e4 e5)))
+-- `stop`, a number, a number: tabs between them, LF
+pub put-stop : (a b : ℕ) {s s1 s2 s3 s4 r : Spelling} → s ≡ noBytes → s1 ≡ putAll s (115 ∷ 116 ∷ 111 ∷ 112 ∷ 9 ∷ []) → s2 ≡ putAll s1 (decimal a) → s3 ≡ putAll s2 (9 ∷ []) → s4 ≡ putAll s3 (decimal b)
+    → r ≡ putAll s4 (10 ∷ []) → r ≡ putAll noBytes (stopLine a b)
+unfolding stopLine
+put-stop a b {s} {s1} {s2} n e1 e2 e3 e4 e5 =
+    from _ n (put-on s (115 ∷ 116 ∷ 111 ∷ 112 ∷ 9 ∷ []) _ e1 (put-on s1 (decimal a) _ e2 (put-three s2 (9 ∷ []) (decimal b) (10 ∷ []) e3 e4 e5)))
 
-module _ (a b : ℕ) {s s1 s2 s3 s4 r : Spelling} where
-  pub put-stop : s ≡ noBytes → s1 ≡ putAll s (115 ∷ 116 ∷ 111 ∷ 112 ∷ 9 ∷ []) → s2 ≡ putAll s1 (decimal a) → s3 ≡ putAll s2 (9 ∷ []) → s4 ≡ putAll s3 (decimal b) → r ≡ putAll s4 (10 ∷ []) → r ≡ putAll noBytes (stopLine a b)
-  unfolding stopLine
-  put-stop = put-two (115 ∷ 116 ∷ 111 ∷ 112 ∷ 9 ∷ []) a b
-
-  pub put-refused : s ≡ noBytes → s1 ≡ putAll s (114 ∷ 101 ∷ 102 ∷ 117 ∷ 115 ∷ 101 ∷ 100 ∷ 9 ∷ []) → s2 ≡ putAll s1 (decimal a) → s3 ≡ putAll s2 (9 ∷ []) → s4 ≡ putAll s3 (decimal b) → r ≡ putAll s4 (10 ∷ []) → r ≡ putAll noBytes (refusedLine a b)
-  unfolding refusedLine
-  put-refused = put-two (114 ∷ 101 ∷ 102 ∷ 117 ∷ 115 ∷ 101 ∷ 100 ∷ 9 ∷ []) a b
+-- `refused` and three numbers
+pub put-refused : (a b c : ℕ) {s s1 s2 s3 s4 s5 s6 r : Spelling} → s ≡ noBytes → s1 ≡ putAll s (114 ∷ 101 ∷ 102 ∷ 117 ∷ 115 ∷ 101 ∷ 100 ∷ 9 ∷ []) → s2 ≡ putAll s1 (decimal a) → s3 ≡ putAll s2 (9 ∷ []) → s4 ≡ putAll s3 (decimal b)
+    → s5 ≡ putAll s4 (9 ∷ []) → s6 ≡ putAll s5 (decimal c) → r ≡ putAll s6 (10 ∷ []) → r ≡ putAll noBytes (refusedLine a b c)
+unfolding refusedLine
+put-refused a b c {s} {s1} {s2} {s3} {s4} n e1 e2 e3 e4 e5 e6 e7 =
+    from _ n (put-on s (114 ∷ 101 ∷ 102 ∷ 117 ∷ 115 ∷ 101 ∷ 100 ∷ 9 ∷ []) _ e1 (put-on s1 (decimal a) _ e2 (put-on s2 (9 ∷ []) _ e3 (put-on s3 (decimal b) _ e4 (put-three s4 (9 ∷ []) (decimal c) (10 ∷ []) e5 e6 e7)))))

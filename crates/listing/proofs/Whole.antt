@@ -2,7 +2,7 @@
 use Prim.Native.Nat.{ℕ, _+_, _*_, _≤_, _<_}
 use native.Mathlib.Omega.{arith}
 use native.Mathlib.Nat.{zero-add}
-use mathlib.Core.Path.{_≡_, sym, ap, ap₂, _∙_}
+use mathlib.Core.Path.{_≡_, sym, ap, _∙_}
 use mathlib.Core.Bool.{Bool, true, false}
 use mathlib.Core.List.{List, _++_, append-assoc}
 use lib.ListN.{length, drop, length-append}
@@ -15,7 +15,7 @@ use Rattle.field.specs.Decimal.{largest}
 use Rattle.field.specs.Spelling.{held, noBytes, putAll}
 use Rattle.field.specs.Room.{room}
 use Rattle.field.proofs.SpellingLaws.{Holds}
-use Rattle.listing.specs.Bytes.{answerIn, placeIn, countIn, isRefusal}
+use Rattle.listing.specs.Bytes.{answerIn, placeIn, countIn, fieldIn, isRefusal}
 use Rattle.listing.specs.Lines.{heading, lastLine, refusedLine}
 use Rattle.record.specs.Lengths.{repliesLength, resultLength, replyPlaces}
 use Rattle.listing.specs.Listing.{Listed, recordLines, listingOf, listingRoom, whereFit, Lists}
@@ -26,16 +26,16 @@ use Rattle.listing.proofs.Which.{some-listed, from-somewhere, few, line
 
 -- ---- which listing it is
 module _ (rs : List Record) (replies result : List ℕ) {answer place : ℕ} (is : answer ≡ answerIn result) (here : place ≡ placeIn result) where
-  refused-is : isRefusal answer ≡ true → listingOf rs replies result ≡ refusedLine answer place
+  refused-is : {bad : ℕ} → bad ≡ fieldIn result → isRefusal answer ≡ true → listingOf rs replies result ≡ refusedLine answer place bad
   unfolding listingOf
-  refused-is t =
-      ap (λ (b : Bool). pick b (refusedLine (answerIn result) (placeIn result)) (heading ++ (recordLines replies 0 rs ++ lastLine (answerIn result) (placeIn result) (countIn result)))) (ap isRefusal (sym is) ∙ t)
-      ∙ ap₂ refusedLine (sym is) (sym here)
+  refused-is so t =
+      ap (λ (b : Bool). pick b (refusedLine (answerIn result) (placeIn result) (fieldIn result)) (heading ++ (recordLines replies 0 rs ++ lastLine (answerIn result) (placeIn result) (countIn result)))) (ap isRefusal (sym is) ∙ t)
+      ∙ sym (λ i. refusedLine (is i) (here i) (so i))
 
   played-is : {count : ℕ} → count ≡ countIn result → isRefusal answer ≡ false → listingOf rs replies result ≡ heading ++ (recordLines replies 0 rs ++ lastLine answer place count)
   unfolding listingOf
   played-is so t =
-      ap (λ (b : Bool). pick b (refusedLine (answerIn result) (placeIn result)) (heading ++ (recordLines replies 0 rs ++ lastLine (answerIn result) (placeIn result) (countIn result)))) (ap isRefusal (sym is) ∙ t)
+      ap (λ (b : Bool). pick b (refusedLine (answerIn result) (placeIn result) (fieldIn result)) (heading ++ (recordLines replies 0 rs ++ lastLine (answerIn result) (placeIn result) (countIn result)))) (ap isRefusal (sym is) ∙ t)
       ∙ sym (λ i. heading ++ (recordLines replies 0 rs ++ lastLine (is i) (here i) (so i)))
 
 -- ---- a buffer of another length
@@ -92,13 +92,13 @@ module _ {text replies result old : List ℕ} (e : length replies ≡ repliesLen
         → s ≡ putAll noBytes (lastLine answer place count) → n ≡ at + s .len → new ≡ sets mid at (held s) → Lists text replies result old new n
     ended {count} t p so tiny d m q = last p (lastLine answer place count) (played-is (p .records) replies result is here so (sym does ∙ t)) (last-length answer place count small little tiny) d m q
 
-    pub refused : {new : List ℕ} {n : ℕ} {s : Spelling} → refusing ≡ true
-        → s ≡ putAll noBytes (refusedLine answer place) → n ≡ 0 + s .len → new ≡ sets old 0 (held s) → Lists text replies result old new n
-    refused {new} {n} {s} t d m q =
-        let l = refused-length answer place small little in
-        let hs : Holds s (refusedLine answer place) = holds (refusedLine answer place) d l in
+    pub refused : {new : List ℕ} {n bad : ℕ} {s : Spelling} → refusing ≡ true → bad ≡ fieldIn result → bad ≤ largest
+        → s ≡ putAll noBytes (refusedLine answer place bad) → n ≡ 0 + s .len → new ≡ sets old 0 (held s) → Lists text replies result old new n
+    refused {new} {n} {bad} {s} t so tiny d m q =
+        let l = refused-length answer place bad (sym does ∙ t) little tiny in
+        let hs : Holds s (refusedLine answer place bad) = holds (refusedLine answer place bad) d l in
         let rs = some-listed text replies in
-        whole (rs .0) (rs .1) (refusedLine answer place) (refused-is (rs .0) replies result is here (sym does ∙ t))
+        whole (rs .0) (rs .1) (refusedLine answer place bad) (refused-is (rs .0) replies result is here so (sym does ∙ t))
         (m ∙ zero-add (s .len) ∙ hs .len)
         (omega (arith, m, hs .len))
         (q ∙ ap (λ (v : List ℕ). sets old 0 v) (hs .bytes))

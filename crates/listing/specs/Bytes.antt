@@ -1,4 +1,4 @@
--- Believed: What the lent bytes of a replay say (document 01, 'Replies and stopping'): four bytes for each record's reply, and twelve for the result.
+-- Believed: What the lent bytes of a replay say (document 01, 'Replies and stopping'; document 02, request 2/12): four bytes for each record's reply, and sixteen for the result.
 use Prim.Native.Nat.{ℕ, _+_, _*_}
 use mathlib.Core.Bool.{Bool, true, false}
 use mathlib.Core.List.{List}
@@ -36,7 +36,7 @@ matchAt replies k = matchOf (getD replies (4 * k + 3) 0)
 unfoldable pub numberAt : List ℕ → ℕ → ℕ
 numberAt bytes at = getD bytes at 0 + 256 * (getD bytes (at + 1) 0 + 256 * (getD bytes (at + 2) 0 + 256 * getD bytes (at + 3) 0))
 
--- the result holds answer, line or stamp, count
+-- the result holds answer, line or stamp, count, field
 abbrev pub answerIn : List ℕ → ℕ
 answerIn result = numberAt result 0
 
@@ -45,6 +45,9 @@ placeIn result = numberAt result 4
 
 abbrev pub countIn : List ℕ → ℕ
 countIn result = numberAt result 8
+
+abbrev pub fieldIn : List ℕ → ℕ
+fieldIn result = numberAt result 12
 
 -- answers 1 to 5 are the refusals
 unfoldable pub isRefusal : ℕ → Bool

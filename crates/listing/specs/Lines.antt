@@ -1,4 +1,4 @@
--- Believed: The lines of a listing (document 01, 'One listing in full'): tabs between fields, LF at the end.
+-- Believed: The lines of a listing (document 01, 'One listing in full'; document 02, request 2/12): tabs between fields, LF at the end.
 use Prim.Native.Nat.{ℕ}
 use mathlib.Core.List.{List, [], _++_}
 use lib.Dec.{eqb}
@@ -53,6 +53,6 @@ stopLine number stamp = wordStop ++ (tab ++ (decimal number ++ (tab ++ (decimal 
 unfoldable pub lastLine : ℕ → ℕ → ℕ → List ℕ
 lastLine answer stamp count = pick (eqb answer 0) (settledLine count) (stopLine answer stamp)
 
--- `refused`, number, line
-unfoldable pub refusedLine : ℕ → ℕ → List ℕ
-refusedLine number line = wordRefused ++ (tab ++ (decimal number ++ (tab ++ (decimal line ++ lf))))
+-- `refused`, number, line, and 'the listing's refused line shows it fourth', the field
+unfoldable pub refusedLine : ℕ → ℕ → ℕ → List ℕ
+refusedLine number line field = wordRefused ++ (tab ++ (decimal number ++ (tab ++ (decimal line ++ (tab ++ (decimal field ++ lf))))))

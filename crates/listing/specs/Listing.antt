@@ -13,7 +13,7 @@ use Rattle.field.specs.Reads.{Stands}
 use Rattle.field.specs.Room.{room}
 use Rattle.line.specs.Boards.{spelledBoard, BoardOk}
 use Rattle.line.specs.Records.{spelled, RecordOk}
-use Rattle.listing.specs.Bytes.{wasPlayed, replyAt, matchAt, answerIn, placeIn, countIn, isRefusal}
+use Rattle.listing.specs.Bytes.{wasPlayed, replyAt, matchAt, answerIn, placeIn, countIn, fieldIn, isRefusal}
 use Rattle.listing.specs.Lines.{heading, recordLine, lastLine, refusedLine}
 
 -- Which records are listed from a place of the text on, the first of them being record k: each one that stands there and was played, and then
@@ -35,7 +35,7 @@ recordLines replies k (r ∷ rs) = recordLine (k + 2) (r .stamp) (replyAt replie
 -- a refusal alone; else the heading, a line for each record that is listed, and the last line
 unfoldable pub listingOf : List Record → List ℕ → List ℕ → List ℕ
 listingOf rs replies result =
-    pick (isRefusal (answerIn result)) (refusedLine (answerIn result) (placeIn result))
+    pick (isRefusal (answerIn result)) (refusedLine (answerIn result) (placeIn result) (fieldIn result))
     (heading ++ (recordLines replies 0 rs ++ lastLine (answerIn result) (placeIn result) (countIn result)))
 
 -- enough for any listing: no line is longer than a spelling's room, and there is a line for each reply at most, a heading and a last line

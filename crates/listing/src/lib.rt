@@ -82,7 +82,8 @@ pub fn list(text: &[u8], replies: &[u8], result: &[u8], out: &mut [u8]) -> usize
     let place = bytes::number_at(result, 4);
     let count = bytes::number_at(result, 8);
     if bytes::is_refusal(answer) {
-        return output::copy_line(lines::refused_line(answer, place), out, 0);
+        let bad = bytes::number_at(result, 12);
+        return output::copy_line(lines::refused_line(answer, place, bad), out, 0);
     }
     let at = list_played(text, replies, out);
     output::copy_line(lines::last_line(answer, place, count), out, at)

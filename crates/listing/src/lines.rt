@@ -88,12 +88,15 @@ pub fn last_line(answer: u32, stamp: u32, count: u32) -> Spelling
     stop_line(answer, stamp)
 }
 
-pub fn refused_line(number: u32, line: u32) -> Spelling
-    ensures { λ r. ⌜ r ≡ putAll noBytes (refusedLine number line) ⌝ }
+// A refusal's number, its line, and the line's first bad field.
+pub fn refused_line(number: u32, line: u32, bad: u32) -> Spelling
+    ensures { λ r. ⌜ r ≡ putAll noBytes (refusedLine number line bad) ⌝ }
 {
     let s1 = field::put_word(field::no_bytes(), b"refused\t");
     let s2 = field::put_decimal(s1, number);
     let s3 = field::put_word(s2, b"\t");
     let s4 = field::put_decimal(s3, line);
-    field::put_word(s4, b"\n")
+    let s5 = field::put_word(s4, b"\t");
+    let s6 = field::put_decimal(s5, bad);
+    field::put_word(s6, b"\n")
 }

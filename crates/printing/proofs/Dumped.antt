@@ -16,6 +16,7 @@ use Rattle.record.specs.Lengths.{repliesLength, resultLength}
 use Rattle.image.specs.Images.{Images}
 use Rattle.machine.specs.Machine.{machineAtStart, onMachine}
 use Rattle.text.specs.Texts.{textLimit}
+use Rattle.text.proofs.Fields.{field-small}
 use Rattle.buffers.specs.Buffers.{Buffers, fit}
 use Rattle.call.specs.Replay.{Ended, Replays}
 use Rattle.demands.proofs.Ways.{refused-line, line-fits}
@@ -38,9 +39,9 @@ module _ {text : List ℕ} {d : Dumps} {x : Buffers} {e : Ended} (lent : LentFor
   printed-so : (records : List Record) → Listed text (e .buffers .replies) records → Printed text d (listingOf records (e .buffers .replies) (e .buffers .result))
   unfolding isRefusal
   printed-so records h = record {
-    unfit = λ t. listing-refused x BadBuffers 0 (p .unfit (lent .not-taken t)) (lent .result) refl (omega arith) records;
-    long = λ t l. listing-refused x TooLong 0 (p .long (lent .taken t .0) l) (lent .result) refl (omega arith) records;
-    bad = λ t l a n w. listing-refused x a n (p .bad (lent .taken t .0) l a n w) (lent .result) (line-refusal (refused-line w)) (line-fits (ltb-false _ _ l) w) records;
+    unfit = λ t. listing-refused x BadBuffers 0 0 (p .unfit (lent .not-taken t)) (lent .result) refl (omega arith) (omega arith) records;
+    long = λ t l. listing-refused x TooLong 0 0 (p .long (lent .taken t .0) l) (lent .result) refl (omega arith) (omega arith) records;
+    bad = λ t l a n k w. listing-refused x a n k (p .bad (lent .taken t .0) l a n k w) (lent .result) (line-refusal (refused-line w)) (line-fits (ltb-false _ _ l) w) (omega (arith, field-small w)) records;
     played = λ t l b rs q.
         let f = lent .taken t .0 in
         let z = p .played f l b rs q in
@@ -53,9 +54,9 @@ module _ {text : List ℕ} {d : Dumps} {x : Buffers} {e : Ended} (lent : LentFor
       split (allTaken d)
       (λ t.
       let f = lent .taken t .0 in
-      split (ltb textLimit (length text)) (λ l. lengths-refused x TooLong 0 (p .long f l) (lent .result) (lent .replies))
-      (λ l. ⊎-elim (λ r. let z = p .played f l (r .0) (r .1) (r .2) in lengths-left p f (ltb-false _ _ l) (r .2) (z .0) (z .1)) (λ r. lengths-refused x (r .0) (r .1) (p .bad f l (r .0) (r .1) (r .2)) (lent .result) (lent .replies)) (p .read f l)))
-      (λ t. lengths-refused x BadBuffers 0 (p .unfit (lent .not-taken t)) (lent .result) (lent .replies))
+      split (ltb textLimit (length text)) (λ l. lengths-refused x TooLong 0 0 (p .long f l) (lent .result) (lent .replies))
+      (λ l. ⊎-elim (λ r. let z = p .played f l (r .0) (r .1) (r .2) in lengths-left p f (ltb-false _ _ l) (r .2) (z .0) (z .1)) (λ r. lengths-refused x (r .0) (r .1) (r .2) (p .bad f l (r .0) (r .1) (r .2) (r .3)) (lent .result) (lent .replies)) (p .read f l)))
+      (λ t. lengths-refused x BadBuffers 0 0 (p .unfit (lent .not-taken t)) (lent .result) (lent .replies))
 
   -- so the call on buffers lent for dumps, and then the listing of what it left, print the text's replay from these dumps
   pub prints : {old new : List ℕ} {n : ℕ} → Lists text (e .buffers .replies) (e .buffers .result) old new n → Prints text d old new n

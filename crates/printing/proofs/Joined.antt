@@ -12,6 +12,7 @@ use Rattle.record.specs.declared.Answer.the-variants.{BadBuffers, TooLong}
 use Rattle.record.specs.Answers.{answerNumber}
 use Rattle.record.specs.Lengths.{repliesLength, resultLength}
 use Rattle.field.specs.Decimal.{largest}
+use Rattle.text.proofs.Fields.{field-small}
 use Rattle.buffers.specs.Buffers.{Buffers}
 use Rattle.buffers.proofs.Fit.{fit-says}
 use Rattle.call.specs.Replay.{Ended, refusedAs, Replays}
@@ -47,16 +48,16 @@ module _ {text replies result old new : List ℕ} {n : ℕ} (k : Lists text repl
 
 module _ {text : List ℕ} {x : Buffers} {e : Ended} (p : Replays text x e) {old new : List ℕ} {n : ℕ} (k : Lists text (e .buffers .replies) (e .buffers .result) old new n) (room : listingRoom ≤ length old) where
   -- a refusal of the text or of the buffers
-  refused-written : (a : Answer) (line : ℕ) → e ≡ refusedAs a line x → length (x .replies) ≡ repliesLength → length (x .result) ≡ resultLength → isRefusal (answerNumber a) ≡ true → line ≤ largest →
-      Written (refusedLine (answerNumber a) line) old new n
-  refused-written a line q r l is h = written-out k (lengths-refused x a line q l r) _ room (λ records g. listing-refused x a line q l is h records)
+  refused-written : (a : Answer) (line j : ℕ) → e ≡ refusedAs a line j x → length (x .replies) ≡ repliesLength → length (x .result) ≡ resultLength → isRefusal (answerNumber a) ≡ true → line ≤ largest → j ≤ largest →
+      Written (refusedLine (answerNumber a) line j) old new n
+  refused-written a line j q r l is h i = written-out k (lengths-refused x a line j q l r) _ room (λ records g. listing-refused x a line j q l is h i records)
 
   joined-so : Joined text x e old new n
   unfolding isRefusal
   joined-so = record {
-    unfit = λ f r l. refused-written BadBuffers 0 (p .unfit f) r l refl (omega arith);
-    long = λ f h. refused-written TooLong 0 (p .long f (lt-ltb _ _ h)) (fit-says x f .replies-long) (fit-says x f .result-long) refl (omega arith);
-    bad = λ f h a line w. refused-written a line (p .bad f (le-ltb _ _ h) a line w) (fit-says x f .replies-long) (fit-says x f .result-long) (line-refusal (refused-line w)) (line-fits h w);
+    unfit = λ f r l. refused-written BadBuffers 0 0 (p .unfit f) r l refl (omega arith) (omega arith);
+    long = λ f h. refused-written TooLong 0 0 (p .long f (lt-ltb _ _ h)) (fit-says x f .replies-long) (fit-says x f .result-long) refl (omega arith) (omega arith);
+    bad = λ f h a line j w. refused-written a line j (p .bad f (le-ltb _ _ h) a line j w) (fit-says x f .replies-long) (fit-says x f .result-long) (line-refusal (refused-line w)) (line-fits h w) (omega (arith, field-small w));
     shown = λ b rs t z means. written-out k (lengths-left p (t .fits) (t .within) (t .readable) z means) _ room (listing-printed p (t .fits) (t .within) (t .readable) z means);
     played = λ b rs t z means. exactly-played p (t .fits) (t .within) (t .readable) z means;
   }

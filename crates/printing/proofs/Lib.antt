@@ -11,3 +11,4 @@ pub mod Lent
 pub mod Some
 pub mod Example
 pub mod StopExample
+pub mod RefusedExample

@@ -25,7 +25,7 @@ module _ {text : List ℕ} {d : Dumps} {p w : List ℕ} (h : Printed text d p) (
       let y = h .played t l (r .0) (r .1) (r .2) in
       let z = k .played t l (r .0) (r .1) (r .2) in
       y .2 ∙ ap (printedOf (r .0) (r .1)) (means-one (onMachine (r .0)) (r .1) _ (readable-back (r .2)) (y .0) (z .0) (y .1) (z .1)) ∙ sym (z .2))
-      (λ r. h .bad t l (r .0) (r .1) (r .2) ∙ sym (k .bad t l (r .0) (r .1) (r .2))) (some-reading text)
+      (λ r. h .bad t l (r .0) (r .1) (r .2) (r .3) ∙ sym (k .bad t l (r .0) (r .1) (r .2) (r .3))) (some-reading text)
 
   pub printed-one : p ≡ w
   printed-one =

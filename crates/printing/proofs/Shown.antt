@@ -29,7 +29,7 @@ use Rattle.demands.specs.Grounds.{OfLine, three, four, five}
 use Rattle.demands.specs.Lines.{numberOf, stampOf, recordsOf, leftBy}
 use Rattle.demands.proofs.Count.{count-most}
 use Rattle.demands.proofs.Shown.{outcomeOf, means-lines, left-shown}
-use Rattle.listing.specs.Bytes.{answerIn, placeIn, countIn, isRefusal}
+use Rattle.listing.specs.Bytes.{answerIn, placeIn, countIn, fieldIn, isRefusal}
 use Rattle.listing.specs.Lines.{heading, lastLine, refusedLine}
 use Rattle.listing.specs.Writing.{played}
 use Rattle.listing.specs.Listing.{Listed, recordLines, listingOf}
@@ -38,26 +38,27 @@ use Rattle.listing.proofs.Theorems.{readable-listed}
 use Rattle.printing.specs.Printed.{linesFrom, printedOf}
 use Rattle.printing.proofs.Front.{early-front}
 use Rattle.printing.proofs.Replies.{played-left, lines-left}
-use Rattle.printing.proofs.Numbers.{answer-back, place-back, count-back}
+use Rattle.printing.proofs.Numbers.{answer-back, place-back, count-back, field-back}
 
 -- ---- a listing by its numbers
 -- a refusal alone, or the heading, these lines and the last line
-unfoldable told : ℕ → ℕ → ℕ → List ℕ → List ℕ
-told n t c lines = pick (isRefusal n) (refusedLine n t) (heading ++ (lines ++ lastLine n t c))
+unfoldable told : ℕ → ℕ → ℕ → ℕ → List ℕ → List ℕ
+told n t c k lines = pick (isRefusal n) (refusedLine n t k) (heading ++ (lines ++ lastLine n t c))
 
-listing-told : (records : List Record) (replies result : List ℕ) → listingOf records replies result ≡ told (answerIn result) (placeIn result) (countIn result) (recordLines replies 0 records)
+listing-told : (records : List Record) (replies result : List ℕ) → listingOf records replies result ≡ told (answerIn result) (placeIn result) (countIn result) (fieldIn result) (recordLines replies 0 records)
 unfolding listingOf told
 listing-told records replies result = refl
 
-result-told : (n t c : ℕ) (lines result : List ℕ) → n ≤ largest → t ≤ largest → c ≤ largest → result ≡ resultBytes n t c → told (answerIn result) (placeIn result) (countIn result) lines ≡ told n t c lines
-result-told n t c lines result hn ht hc e =
-    ap (λ (r : List ℕ). told (answerIn r) (placeIn r) (countIn r) lines) e
-    ∙ (λ i. told (answer-back n t c hn i) (place-back n t c ht i) (count-back n t c hc i) lines)
+result-told : (n t c k : ℕ) (lines result : List ℕ) → n ≤ largest → t ≤ largest → c ≤ largest → k ≤ largest → result ≡ resultBytes n t c k →
+    told (answerIn result) (placeIn result) (countIn result) (fieldIn result) lines ≡ told n t c k lines
+result-told n t c k lines result hn ht hc hk e =
+    ap (λ (r : List ℕ). told (answerIn r) (placeIn r) (countIn r) (fieldIn r) lines) e
+    ∙ (λ i. told (answer-back n t c k hn i) (place-back n t c k ht i) (count-back n t c k hc i) (field-back n t c k hk i) lines)
 
 -- what is printed of an answer of demand 3, by its numbers
 module _ (b : Board) (rs : List Record) where
   printed-told : (z : meaning.Answer Machine Reply) →
-      printedOf b rs z ≡ told (numberOf z) (stampOf z) (countTwos (recordsOf b z rs) (shownAt (onMachine b) (recordsOf b z rs) (outcomeOf z))) (linesFrom 0 (recordsOf b z rs) (shownAt (onMachine b) (recordsOf b z rs) (outcomeOf z)))
+      printedOf b rs z ≡ told (numberOf z) (stampOf z) (countTwos (recordsOf b z rs) (shownAt (onMachine b) (recordsOf b z rs) (outcomeOf z))) 0 (linesFrom 0 (recordsOf b z rs) (shownAt (onMachine b) (recordsOf b z rs) (outcomeOf z)))
   unfolding printedOf told isRefusal lastLine
   printed-told (meaning.settled v) = refl
   printed-told (meaning.stopped crowded t v) = refl
@@ -100,7 +101,7 @@ module _ {text : List ℕ} {x : Buffers} {e : Ended} (p : Replays text x e) (f :
   unfolding leftBy
   replies-left = ap (λ (w : Ended). w .buffers .replies) left
 
-  result-left : e .buffers .result ≡ resultBytes (numberOf z) (stampOf z) (countTwos ps ys)
+  result-left : e .buffers .result ≡ resultBytes (numberOf z) (stampOf z) (countTwos ps ys) 0
   unfolding leftBy
   result-left = ap (λ (w : Ended). w .buffers .result) left
 
@@ -137,9 +138,9 @@ module _ {text : List ℕ} {x : Buffers} {e : Ended} (p : Replays text x e) (f :
       let lines = linesFrom 0 ps ys in
       let same : recordLines (e .buffers .replies) 0 records ≡ lines = ap₂ (λ (k : List ℕ) (o : List Record). recordLines k 0 o) replies-left (exactly-played records h) ∙ lines-left b ps start in
       listing-told records (e .buffers .replies) (e .buffers .result)
-      ∙ ap (told _ _ _) same
-      ∙ result-told (numberOf z) (stampOf z) (countTwos ps ys) lines (e .buffers .result) (number-small b rs z) stamp-small (omega (arith, count-most ps ys, shown-few)) result-left
-      ∙ sym (printed-told b rs z ∙ ap (λ (k : List Reply). told (numberOf z) (stampOf z) (countTwos ps k) (linesFrom 0 ps k)) (means-lines b rs (readable-back q) start z means .1))
+      ∙ ap (told _ _ _ _) same
+      ∙ result-told (numberOf z) (stampOf z) (countTwos ps ys) 0 lines (e .buffers .result) (number-small b rs z) stamp-small (omega (arith, count-most ps ys, shown-few)) (omega arith) result-left
+      ∙ sym (printed-told b rs z ∙ ap (λ (k : List Reply). told (numberOf z) (stampOf z) (countTwos ps k) 0 (linesFrom 0 ps k)) (means-lines b rs (readable-back q) start z means .1))
 
   pub lengths-left : (length (e .buffers .replies) ≡ repliesLength) × (length (e .buffers .result) ≡ resultLength)
   unfolding resultBytes
@@ -157,18 +158,18 @@ answer-small Crowded = omega arith
 answer-small OrdersDiffer = omega arith
 answer-small StatusLost = omega arith
 
-module _ (x : Buffers) {e : Ended} (a : Answer) (line : ℕ) (q : e ≡ refusedAs a line x) (room : length (x .result) ≡ resultLength) where
-  result-refused : e .buffers .result ≡ resultBytes (answerNumber a) line 0
+module _ (x : Buffers) {e : Ended} (a : Answer) (line k : ℕ) (q : e ≡ refusedAs a line k x) (room : length (x .result) ≡ resultLength) where
+  result-refused : e .buffers .result ≡ resultBytes (answerNumber a) line 0 k
   unfolding refusedAs
-  result-refused = ap (λ (w : Ended). w .buffers .result) q ∙ result-written (answerNumber a) line 0 (x .result) room
+  result-refused = ap (λ (w : Ended). w .buffers .result) q ∙ result-written (answerNumber a) line 0 k (x .result) room
 
-  pub listing-refused : isRefusal (answerNumber a) ≡ true → line ≤ largest → (records : List Record) → listingOf records (e .buffers .replies) (e .buffers .result) ≡ refusedLine (answerNumber a) line
+  pub listing-refused : isRefusal (answerNumber a) ≡ true → line ≤ largest → k ≤ largest → (records : List Record) → listingOf records (e .buffers .replies) (e .buffers .result) ≡ refusedLine (answerNumber a) line k
   unfolding told
-  listing-refused is h records =
+  listing-refused is h j records =
       let lines = recordLines (e .buffers .replies) 0 records in
       listing-told records (e .buffers .replies) (e .buffers .result)
-      ∙ result-told (answerNumber a) line 0 lines (e .buffers .result) (answer-small a) h (omega arith) result-refused
-      ∙ ap (λ (t : Bool). pick t (refusedLine (answerNumber a) line) (heading ++ (lines ++ lastLine (answerNumber a) line 0))) is
+      ∙ result-told (answerNumber a) line 0 k lines (e .buffers .result) (answer-small a) h (omega arith) j result-refused
+      ∙ ap (λ (t : Bool). pick t (refusedLine (answerNumber a) line k) (heading ++ (lines ++ lastLine (answerNumber a) line 0))) is
 
   pub lengths-refused : length (x .replies) ≡ repliesLength → (length (e .buffers .replies) ≡ repliesLength) × (length (e .buffers .result) ≡ resultLength)
   unfolding refusedAs resultBytes

@@ -1,6 +1,6 @@
 -- Of each text and dumps something is printed; with `printed-one` it is exactly one thing.
 use Prim.Native.Nat.{ℕ}
-use mathlib.Core.Path.{_≡_, refl, sym, ap₂, subst, _∙_}
+use mathlib.Core.Path.{_≡_, refl, sym, subst, _∙_}
 use mathlib.Core.Bool.{true, false}
 use mathlib.Core.Logic.{⊎-elim}
 use mathlib.Core.List.{List}
@@ -29,7 +29,7 @@ use Rattle.text.proofs.SomeReading.{some-reading}
 
 module _ (text : List ℕ) (d : Dumps) where
   -- a dump is not taken
-  unfit-printed : allTaken d ≡ false → Printed text d (refusedLine (answerNumber BadBuffers) 0)
+  unfit-printed : allTaken d ≡ false → Printed text d (refusedLine (answerNumber BadBuffers) 0 0)
   unfit-printed f =
       let no : allTaken d ≡ true → ⊥ = λ t. true-not-false (sym t ∙ f) in
       record { unfit = λ t. refl; long = λ t. absurd (no t); bad = λ t. absurd (no t); played = λ t. absurd (no t) }
@@ -38,7 +38,7 @@ module _ (text : List ℕ) (d : Dumps) where
     fit : {P : Type 0} → allTaken d ≡ false → P
     fit f = absurd (true-not-false (sym t ∙ f))
 
-    long-printed : ltb textLimit (length text) ≡ true → Printed text d (refusedLine (answerNumber TooLong) 0)
+    long-printed : ltb textLimit (length text) ≡ true → Printed text d (refusedLine (answerNumber TooLong) 0 0)
     long-printed l =
         let no : ltb textLimit (length text) ≡ false → ⊥ = λ s. true-not-false (sym l ∙ s) in
         record { unfit = λ f. fit f; long = λ t l. refl; bad = λ t s. absurd (no s); played = λ t s. absurd (no s) }
@@ -47,11 +47,11 @@ module _ (text : List ℕ) (d : Dumps) where
       short : {P : Type 0} → ltb textLimit (length text) ≡ true → P
       short s = absurd (true-not-false (sym s ∙ l))
 
-      bad-printed : (a : Answer) (n : ℕ) → Refused text a n → Printed text d (refusedLine (answerNumber a) n)
-      bad-printed a n w = record {
+      pub bad-printed : (a : Answer) (n k : ℕ) → Refused text a n k → Printed text d (refusedLine (answerNumber a) n k)
+      bad-printed a n k w = record {
         unfit = λ f. fit f;
         long = λ t s. short s;
-        bad = λ t s a′ n′ w′. let e = refused-one w w′ in ap₂ (λ (x : Answer) (k : ℕ). refusedLine (answerNumber x) k) (e .0) (e .1);
+        bad = λ t s a′ n′ k′ w′. let e = refused-one w w′ in λ i. refusedLine (answerNumber (e .0 i)) (e .1 i) (e .2 i);
         played = λ t s b rs q. absurd (not-both q w);
       }
 
@@ -63,7 +63,7 @@ module _ (text : List ℕ) (d : Dumps) where
       played-printed b rs q p y = record {
         unfit = λ f. fit f;
         long = λ t s. short s;
-        bad = λ t s a n w. absurd (not-both q w);
+        bad = λ t s a n k w. absurd (not-both q w);
         played = λ t s b′ rs′ q′. let e = readable-one q q′ in subst (λ (x : List Record). By p b′ x) (e .1) (subst (λ (x : Board). By p x rs) (e .0) y);
       }
 
@@ -74,13 +74,13 @@ module _ (text : List ℕ) (d : Dumps) where
           let z = some-answer (onMachine (r .0)) tell (r .1) (readable-back (r .2)) (machineAtStart (r .0) (imagesFrom d)) (status-known (r .0) (imagesFrom d)) in
           let p = printedOf (r .0) (r .1) (z .0) in
           (p, played-printed (r .0) (r .1) (r .2) p (z .0, z .1, refl)))
-          (λ r. (refusedLine (answerNumber (r .0)) (r .1), bad-printed (r .0) (r .1) (r .2))) (some-reading text)
+          (λ r. (refusedLine (answerNumber (r .0)) (r .1) (r .2), bad-printed (r .0) (r .1) (r .2) (r .3))) (some-reading text)
 
   some-printed : (p : List ℕ) × Printed text d p
   some-printed =
       split (allTaken d)
-      (λ t. split (ltb textLimit (length text)) (λ l. (refusedLine (answerNumber TooLong) 0, long-printed t l)) (λ l. read-printed t l))
-      (λ f. (refusedLine (answerNumber BadBuffers) 0, unfit-printed f))
+      (λ t. split (ltb textLimit (length text)) (λ l. (refusedLine (answerNumber TooLong) 0 0, long-printed t l)) (λ l. read-printed t l))
+      (λ f. (refusedLine (answerNumber BadBuffers) 0 0, unfit-printed f))
 
 pub one-printed : OnePrinted
 one-printed text d = let p = some-printed text d in (p .0, p .1, λ w h. printed-one h (p .1))

@@ -15,7 +15,7 @@ use Rattle.record.specs.declared.LineEvent.the-variants as line
 use Rattle.image.specs.Images.{Images}
 use Rattle.field.specs.Hex.{hexDigit, hexField}
 use Rattle.field.specs.Digit.{digitField}
-use Rattle.field.specs.Decimal.{digitsIn, decimal, decimalField}
+use Rattle.field.specs.Decimal.{digitsIn, decimal}
 use Rattle.line.specs.ChannelF.{spelledFlash}
 use Rattle.line.specs.ChannelL.{spelledLine}
 use Rattle.line.specs.Records.{spelledEvent, spelled}
@@ -47,7 +47,7 @@ abbrev all : List Record
 all = opens ++ (closes ++ three)
 
 readable : Readable stopText plain all
-unfolding All Rising buses.after spelledTrace spelledAll spelled spelledEvent spelledFlash spelledLine spelledBoard spelledPlaces hexField hexDigit digitField decimalField decimal digitsIn
+unfolding All Rising buses.after spelledTrace spelledAll spelled spelledEvent spelledFlash spelledLine spelledBoard spelledPlaces hexField hexDigit digitField decimal digitsIn
 readable = record {
   board = ((omega arith, refl, refl), ((omega arith, omega arith, omega arith), (omega arith, omega arith, omega arith)));
   fits = omega arith;

@@ -48,3 +48,15 @@ stopListing =
 
 abbrev pub StopPrinted : Type 0
 StopPrinted = Printed stopText noDumps stopListing
+
+-- A refusal (document 02, request 2/12): line 2 lacks its fifth field. Its line alone is printed, with the field fourth.
+abbrev pub refusedText : List ℕ
+refusedText =
+    98 ∷ 111 ∷ 97 ∷ 114 ∷ 100 ∷ 9 ∷ 48 ∷ 48 ∷ 9 ∷ 49 ∷ 9 ∷ 48 ∷ 10 ∷
+    49 ∷ 48 ∷ 9 ∷ 70 ∷ 9 ∷ 120 ∷ 9 ∷ 48 ∷ 53 ∷ 10 ∷ []
+
+abbrev pub refusedListing : List ℕ
+refusedListing = 114 ∷ 101 ∷ 102 ∷ 117 ∷ 115 ∷ 101 ∷ 100 ∷ 9 ∷ 51 ∷ 9 ∷ 50 ∷ 9 ∷ 53 ∷ 10 ∷ []
+
+abbrev pub RefusedPrinted : Type 0
+RefusedPrinted = Printed refusedText noDumps refusedListing

@@ -26,9 +26,9 @@ use Rattle.printing.specs.Printed.{Dumps, printedOf, Printed, Written, P
 -- Of a text, the buffers x as lent and an outcome e of the call: what the listing writes out of the buffers that the call left, and which records it lists.
 pub record Joined (text : List ℕ) (x : Buffers) (e : Ended) (old new : List ℕ) (n : ℕ) : Type 0 where
   -- refusals 1 to 5: their line alone
-  pub unfit : fit x ≡ false → length (x .replies) ≡ repliesLength → length (x .result) ≡ resultLength → Written (refusedLine (answerNumber BadBuffers) 0) old new n
-  pub long : fit x ≡ true → textLimit < length text → Written (refusedLine (answerNumber TooLong) 0) old new n
-  pub bad : fit x ≡ true → length text ≤ textLimit → (a : Answer) (line : ℕ) → Refused text a line → Written (refusedLine (answerNumber a) line) old new n
+  pub unfit : fit x ≡ false → length (x .replies) ≡ repliesLength → length (x .result) ≡ resultLength → Written (refusedLine (answerNumber BadBuffers) 0 0) old new n
+  pub long : fit x ≡ true → textLimit < length text → Written (refusedLine (answerNumber TooLong) 0 0) old new n
+  pub bad : fit x ≡ true → length text ≤ textLimit → (a : Answer) (line f : ℕ) → Refused text a line f → Written (refusedLine (answerNumber a) line f) old new n
   -- a text that is taken: what is printed of the answer z that demand 3 admits
   pub shown : (b : Board) (rs : List Record) → Taken text x b rs → (z : meaning.Answer Machine Reply) → Means (onMachine b) rs (machineAtStart b (x .images)) z → Written (printedOf b rs z) old new n
   -- and the records that are listed are exactly those played, all or those before the stop's stamp

@@ -1,4 +1,4 @@
--- Believed: What is printed of a text and of the dumps (document 01, 'One listing in full', 'Bytes and doubt').
+-- Believed: What is printed of a text and of the dumps (document 01, 'One listing in full', 'Bytes and doubt'; document 02, request 2/12).
 use Prim.Native.Nat.{ℕ, suc, _+_, _≤_, _<_}
 use mathlib.Core.Path.{_≡_}
 use mathlib.Core.Bool.{Bool, true, false}
@@ -75,12 +75,12 @@ printedOf b rs (meaning.stopped n t v) =
     let shown = before (onMachine b) t rs in
     heading ++ (linesFrom 0 shown (shownAt (onMachine b) shown v) ++ stopLine (answerNumber (reasonAnswer n)) t)
 
--- The bytes p are what is printed, in the order of the checks: 'alone `refused`, number, line (0 for 1 and 2)'; else what demand 3 says of the records,
--- played from the dumps' images.
+-- The bytes p are what is printed, in the order of the checks: 'alone `refused`, number, line (0 for 1 and 2)', and fourth the field (0 for all but 3); else what
+-- demand 3 says of the records, played from the dumps' images.
 pub record Printed (text : List ℕ) (d : Dumps) (p : List ℕ) : Type 0 where
-  pub unfit : allTaken d ≡ false → p ≡ refusedLine (answerNumber BadBuffers) 0
-  pub long : allTaken d ≡ true → ltb textLimit (length text) ≡ true → p ≡ refusedLine (answerNumber TooLong) 0
-  pub bad : allTaken d ≡ true → ltb textLimit (length text) ≡ false → (a : Answer) (n : ℕ) → Refused text a n → p ≡ refusedLine (answerNumber a) n
+  pub unfit : allTaken d ≡ false → p ≡ refusedLine (answerNumber BadBuffers) 0 0
+  pub long : allTaken d ≡ true → ltb textLimit (length text) ≡ true → p ≡ refusedLine (answerNumber TooLong) 0 0
+  pub bad : allTaken d ≡ true → ltb textLimit (length text) ≡ false → (a : Answer) (n f : ℕ) → Refused text a n f → p ≡ refusedLine (answerNumber a) n f
   pub played : allTaken d ≡ true → ltb textLimit (length text) ≡ false → (b : Board) (rs : List Record) → Readable text b rs →
       (z : meaning.Answer Machine Reply) × Means (onMachine b) rs (machineAtStart b (imagesFrom d)) z × (p ≡ printedOf b rs z)
 

@@ -1,12 +1,13 @@
--- Believed: How long the replies and the result are (document 01, 'Replies and stopping').
+-- Believed: How long the replies and the result are (document 01, 'Replies and stopping'; document 02, request 2/12).
 use Prim.Native.Nat.{ℕ, _/_}
 
--- refusal 1: 'replies are not 40,000, result not 12'
+-- refusal 1: 'replies are not 40,000'
 abbrev pub repliesLength : ℕ
 repliesLength = 40000
 
+-- 'The result grows to 16 bytes', 'Refusals: 1 asks for 16'
 abbrev pub resultLength : ℕ
-resultLength = 12
+resultLength = 16
 
 -- how many replies have a place: 'each record has four reply bytes'
 abbrev pub replyPlaces : ℕ

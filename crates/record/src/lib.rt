@@ -171,7 +171,7 @@ pub const REPLIES: usize = 40000;
 
 pub const REPLY_PLACES: usize = REPLIES / 4;
 
-pub const RESULT: usize = 12;
+pub const RESULT: usize = 16;
 
 // What a replay answers.
 pub enum Answer {

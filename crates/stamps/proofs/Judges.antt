@@ -24,7 +24,7 @@ use Rattle.stamps.proofs.Sharing.{one-shares}
 
 module _ (text : List ℕ) (place : ℕ) (b : Board) (c : Controls) where
   module _ (a : ReadRecord) (d : ReadsRecord text place a) (none : Gathered) (n : none ≡ nothingGathered place) where
-    pub judges-none : a ≡ ReadRecord.Bad → JudgesAt text place b c (record { verdict = Crowded; records = none .records; count = 0; next = place; stamp = 0 })
+    pub judges-none : {k : ℕ} → a ≡ ReadRecord.Bad k → JudgesAt text place b c (record { verdict = Crowded; records = none .records; count = 0; next = place; stamp = 0 })
     judges-none e =
         subst (λ (x : Gathered). JudgesAt text place b c (record { verdict = Crowded; records = x .records; count = 0; next = place; stamp = 0 })) (sym n)
         (nothing (got-none tells-record d e))

@@ -12,14 +12,15 @@ use Rattle.record.specs.declared.Record.{Record}
 use Rattle.record.specs.declared.Board.{Board}
 use Rattle.field.specs.declared.Cursor.{Cursor}
 use Rattle.field.specs.declared.decimal.ReadDecimal.{ReadDecimal}
-use Rattle.field.specs.Decimal.{decimalField}
-use Rattle.field.specs.Reads.{Stands}
+use Rattle.field.specs.Decimal.{decimal}
 use Rattle.field.specs.Readers.{ReadsDecimal}
-use Rattle.field.proofs.Reading.{got-none, got-one, stands-left}
+use Rattle.field.proofs.Reading.{got-none, got-one}
 use Rattle.field.proofs.Answers.{tells-decimal}
+use Rattle.field.proofs.FieldLaws.{content-stands}
 use Rattle.line.specs.declared.records.ReadRecord.{ReadRecord}
-use Rattle.line.specs.Records.{spelledEvent, spelled, ReadsRecord}
+use Rattle.line.specs.Records.{ReadsRecord}
 use Rattle.line.proofs.Apart.{tells-record}
+use Rattle.line.proofs.RecordLaws.{stamp-content}
 use Rattle.controls.specs.declared.Controls.{Controls}
 use Rattle.controls.specs.Play.{lostOf}
 use Rattle.machine.specs.Machine.{channelOf}
@@ -33,20 +34,16 @@ use Rattle.stamps.specs.Judging.JudgesAt.{found}
 use Rattle.stamps.specs.Lone.{lostAfter, aloneVerdict, aloneJudgement}
 
 -- ---- the stamp is over: a record's line begins with its stamp
-module _ (text : List ℕ) (place t : ℕ) (a : ReadDecimal) (d : ReadsDecimal text place a) where
-  stamp-stands : (r : Record) → Stands text place (spelled r) → Stands text place (decimalField (r .stamp))
-  unfolding spelled
-  stamp-stands r s = stands-left text (decimalField (r .stamp)) (spelledEvent (r .event)) place s
-
+module _ {n : ℕ} (text : List ℕ) (place t : ℕ) (a : ReadDecimal) (d : ReadsDecimal n text place a) where
   -- no stamp stands there
-  pub over-none : a ≡ ReadDecimal.Bad → Shares text t place []
+  pub over-none : {k : ℕ} → a ≡ ReadDecimal.Bad k → Shares text t place []
   unfolding Shares
-  over-none e r o s w = got-none tells-decimal d e (r .stamp) (o .0) (stamp-stands r s)
+  over-none e r o s w = let c = stamp-content r s in got-none tells-decimal d e (r .stamp) (o .0, c) (content-stands text place (decimal (r .stamp)) c)
 
   -- another one does
-  pub over-other : (n : ℕ) (c : Cursor) → a ≡ ReadDecimal.Value n c → (n ≡ t → ⊥) → Shares text t place []
+  pub over-other : (m : ℕ) (c : Cursor) → a ≡ ReadDecimal.Value m c → (m ≡ t → ⊥) → Shares text t place []
   unfolding Shares
-  over-other n c e x r o s w = x (got-one tells-decimal d n (c .at) e .only (r .stamp) (o .0) (stamp-stands r s) ∙ w)
+  over-other m c e x r o s w = let z = stamp-content r s in x (got-one tells-decimal d m (c .at) e .only (r .stamp) (o .0, z) (content-stands text place (decimal (r .stamp)) z) ∙ w)
 
 -- ---- one record has one order
 module _ (b : Board) (s : Controls) where

@@ -49,10 +49,10 @@ module _ (text : List ℕ) (t : ℕ) (first g : Gathered) (k : Gathering text t 
       let p = got-record-place x in
       let n = ap (λ (y : Gathered). y .next) f in
       (one-more r c x (eqb-true (r .stamp) t h) m f, omega (arith, p .0, p .1, n))
-  takes-on ReadRecord.Bad d h m f = absurd (true-not-false (sym h))
+  takes-on (ReadRecord.Bad n) d h m f = absurd (true-not-false (sym h))
 
   -- it is not, or none was read
   pub takes-no-more : (a : ReadRecord) → ReadsRecord text (g .next) a → isOf t a ≡ false → Gathers text t first g
   unfolding Shares
   takes-no-more (ReadRecord.Value r c) d h = over (λ y o s w. eqb-false (r .stamp) t h (ap (λ (z : Record). z .stamp) (got-one tells-record d r (c .at) refl .only y o s) ∙ w))
-  takes-no-more ReadRecord.Bad d h = over (λ y o s w. got-none tells-record d refl y o s)
+  takes-no-more (ReadRecord.Bad n) d h = over (λ y o s w. got-none tells-record d refl y o s)

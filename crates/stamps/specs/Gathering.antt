@@ -79,12 +79,12 @@ gatheredWith g r next = record {
 -- whether what was read is a record of the stamp t
 abbrev pub isOf : ℕ → ReadRecord → Bool
 isOf t (ReadRecord.Value r c) = eqb (r .stamp) t
-isOf t ReadRecord.Bad = false
+isOf t (ReadRecord.Bad k) = false
 
 -- a record that was read is one more
 abbrev pub gatheredRead : Gathered → ReadRecord → Gathered
 gatheredRead g (ReadRecord.Value r c) = gatheredWith g r (c .at)
-gatheredRead g ReadRecord.Bad = g
+gatheredRead g (ReadRecord.Bad k) = g
 
 -- records more, of which each stands behind the one before it
 unfoldable pub gatheredAll : Gathered → List Record → Gathered

@@ -214,7 +214,7 @@ fn shares(read: ReadRecord, stamp: u32) -> bool
 {
     match read {
         ReadRecord::Value(rec, _) => rec.stamp == stamp,
-        ReadRecord::Bad => false,
+        ReadRecord::Bad(_) => false,
     }
 }
 
@@ -224,7 +224,7 @@ fn gather_read(g: Gathered, read: ReadRecord) -> Gathered
 {
     match read {
         ReadRecord::Value(rec, c) => gather_one(g, rec, c.at),
-        ReadRecord::Bad => g,
+        ReadRecord::Bad(_) => g,
     }
 }
 
@@ -256,7 +256,8 @@ pub struct Judgement {
 fn over_at(text: &[u8], place: usize, stamp: u32) -> bool
     ensures { λ r. ⌜ (r ≡ true → Shares (now (text .entry)) stamp place []) ⌝ }
 {
-    let ReadDecimal::Value(other, _) = field::read_decimal(text, Cursor { at: place }) else {
+    let ReadDecimal::Value(other, _) = field::read_decimal(text, Cursor { at: place }, line::STAMP)
+    else {
         return true;
     };
     if other != stamp {

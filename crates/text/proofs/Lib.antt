@@ -4,3 +4,4 @@ pub mod OneReading
 pub mod Standing
 pub mod Theorems
 pub mod SomeReading
+pub mod Fields

@@ -70,7 +70,7 @@ module _ {text : List ℕ} {b : Board} {rs : List Record} (f : Front text b rs) 
   stands-there : (w u : List ℕ) → f .stands .rest ≡ w ++ u → Stands text (length (spelledTrace b rs)) w
   stands-there w u e = record { rest = u; is = front-rest ∙ e }
 
-  wrong-stop : {a : Answer} → Wrong text (length (spelledTrace b rs)) rs a → Stop 0 (Moves.To allClosed) rs (f .stands .rest)
+  wrong-stop : {a : Answer} {k : ℕ} → Wrong text (length (spelledTrace b rs)) rs a k → Stop 0 (Moves.To allClosed) rs (f .stands .rest)
   wrong-stop (noRecord h n) r u e g = n r (good-first g) (stands-there (spelled r) u e)
   wrong-stop (falls x o s h) r u e g =
       let same = record-same text (length (spelledTrace b rs)) x r o (good-first g) s (stands-there (spelled r) u e) in
@@ -81,7 +81,7 @@ module _ {text : List ℕ} {b : Board} {rs : List Record} (f : Front text b rs) 
       let same = record-same text (length (spelledTrace b rs)) x r o (good-first g) s (stands-there (spelled r) u e) in
       never (sym i ∙ ap (λ (k : Record). onwards (busesAfter rs) (k .event)) same ∙ good-next g .1)
 
-  ends-refused : {a : Answer} → Wrong text (length (spelledTrace b rs)) rs a → Ends text b rs
+  ends-refused : {a : Answer} {k : ℕ} → Wrong text (length (spelledTrace b rs)) rs a k → Ends text b rs
   unfolding spelledTrace
   ends-refused w = record {
     board = f .board;
@@ -91,30 +91,31 @@ module _ {text : List ℕ} {b : Board} {rs : List Record} (f : Front text b rs) 
     stop = wrong-stop w;
   }
 
-wrong-less : {text : List ℕ} {at : ℕ} {rs : List Record} {a : Answer} → Wrong text at rs a → at < length text
+wrong-less : {text : List ℕ} {at : ℕ} {rs : List Record} {a : Answer} {k : ℕ} → Wrong text at rs a k → at < length text
 wrong-less (noRecord h n) = h
 wrong-less {text} {at} (falls x o s h) = omega (arith, stands-length text (spelled x) at s (some x o), some x o)
 wrong-less {text} {at} (cannot x o s h i) = omega (arith, stands-length text (spelled x) at s (some x o), some x o)
 
-wrong-one : {text : List ℕ} {at : ℕ} {rs : List Record} {a a′ : Answer} → Wrong text at rs a → Wrong text at rs a′ → a ≡ a′
-wrong-one (noRecord h n) (noRecord h′ n′) = refl
+-- the answer is one, and the field
+wrong-one : {text : List ℕ} {at : ℕ} {rs : List Record} {a a′ : Answer} {k k′ : ℕ} → Wrong text at rs a k → Wrong text at rs a′ k′ → (a ≡ a′) × (k ≡ k′)
+wrong-one (noRecord h n) (noRecord h′ n′) = (refl, refl)
 wrong-one (noRecord h n) (falls x o s l) = absurd (n x o s)
 wrong-one (noRecord h n) (cannot x o s l i) = absurd (n x o s)
 wrong-one (falls x o s l) (noRecord h n) = absurd (n x o s)
-wrong-one (falls x o s l) (falls y p q k) = refl
+wrong-one (falls x o s l) (falls y p q k) = (refl, refl)
 wrong-one {text} {at} (falls x o s l) (cannot y p q k i) = let t = ap (λ (z : Record). z .stamp) (record-same text at x y o p s q) in absurd (omega arith)
 wrong-one (cannot x o s l i) (noRecord h n) = absurd (n x o s)
 wrong-one {text} {at} (cannot x o s l i) (falls y p q k) = let t = ap (λ (z : Record). z .stamp) (record-same text at x y o p s q) in absurd (omega arith)
-wrong-one (cannot x o s l i) (cannot y p q k j) = refl
+wrong-one (cannot x o s l i) (cannot y p q k j) = (refl, refl)
 
-wrong-as : {text : List ℕ} {b b′ : Board} {rs rs′ : List Record} {a : Answer} → b ≡ b′ → rs ≡ rs′ → Wrong text (length (spelledTrace b rs)) rs a → Wrong text (length (spelledTrace b′ rs′)) rs′ a
-wrong-as {text} {b} {b′} {rs} {rs′} {a} e f w = subst (λ (x : List Record). Wrong text (length (spelledTrace b′ x)) x a) f (subst (λ (x : Board). Wrong text (length (spelledTrace x rs)) rs a) e w)
+wrong-as : {text : List ℕ} {b b′ : Board} {rs rs′ : List Record} {a : Answer} {k : ℕ} → b ≡ b′ → rs ≡ rs′ → Wrong text (length (spelledTrace b rs)) rs a k → Wrong text (length (spelledTrace b′ rs′)) rs′ a k
+wrong-as {text} {b} {b′} {rs} {rs′} {a} {k} e f w = subst (λ (x : List Record). Wrong text (length (spelledTrace b′ x)) x a k) f (subst (λ (x : Board). Wrong text (length (spelledTrace x rs)) rs a k) e w)
 
 -- ---- one reading
 pub readable-one : {text : List ℕ} {b b′ : Board} {rs rs′ : List Record} → Readable text b rs → Readable text b′ rs′ → (b ≡ b′) × (rs ≡ rs′)
 readable-one q q′ = ends-same (ends-readable q) (ends-readable q′)
 
-pub not-both : {text : List ℕ} {b : Board} {rs : List Record} {a : Answer} {n : ℕ} → Readable text b rs → Refused text a n → ⊥
+pub not-both : {text : List ℕ} {b : Board} {rs : List Record} {a : Answer} {n k : ℕ} → Readable text b rs → Refused text a n k → ⊥
 unfolding spelledTrace
 not-both {text} {b} {rs} q (noBoard none) = none b (q .board) (record { rest = spelledAll rs; is = q .is })
 not-both {text} {b} {rs} q (badLine b′ rs′ f w) =
@@ -122,25 +123,26 @@ not-both {text} {b} {rs} q (badLine b′ rs′ f w) =
     let l = wrong-less w in
     omega (arith, ap length (q .is), ap (λ (x : Board). length (spelledTrace x rs)) (e .0), ap (λ (x : List Record). length (spelledTrace b′ x)) (e .1))
 
-pub refused-one : {text : List ℕ} {a a′ : Answer} {n n′ : ℕ} → Refused text a n → Refused text a′ n′ → (a ≡ a′) × (n ≡ n′)
-refused-one (noBoard none) (noBoard none′) = (refl, refl)
+pub refused-one : {text : List ℕ} {a a′ : Answer} {n n′ k k′ : ℕ} → Refused text a n k → Refused text a′ n′ k′ → (a ≡ a′) × (n ≡ n′) × (k ≡ k′)
+refused-one (noBoard none) (noBoard none′) = (refl, refl, refl)
 refused-one (noBoard none) (badLine b rs f w) = absurd (none b (f .board) (front-board f))
 refused-one (badLine b rs f w) (noBoard none) = absurd (none b (f .board) (front-board f))
 refused-one (badLine b rs f w) (badLine b′ rs′ f′ w′) =
     let e = ends-same (ends-refused f w) (ends-refused f′ w′) in
-    (wrong-one (wrong-as (e .0) (e .1) w) w′, ap (λ (x : List Record). length x + 2) (e .1))
+    let o = wrong-one (wrong-as (e .0) (e .1) w) w′ in
+    (o .0, ap (λ (x : List Record). length x + 2) (e .1), o .1)
 
 -- ---- so each reading gives the whole promise of the check
 pub checks-readable : {text : List ℕ} (b : Board) (rs : List Record) → Readable text b rs → Checks text (Checked.Readable b (record { at = length (spelledBoard b) }))
 checks-readable b rs q = record {
   readable = λ b′ rs′ q′. ap (λ (x : Board). Checked.Readable x (record { at = length (spelledBoard x) })) (readable-one q q′ .0);
-  refused = λ a n w. absurd (not-both q w);
+  refused = λ a n k w. absurd (not-both q w);
   only = inl (b, rs, q);
 }
 
-pub checks-refused : {text : List ℕ} (a : Answer) (n : ℕ) → Refused text a n → Checks text (Checked.Refused a n)
-checks-refused a n w = record {
+pub checks-refused : {text : List ℕ} (a : Answer) (n k : ℕ) → Refused text a n k → Checks text (Checked.Refused a n k)
+checks-refused a n k w = record {
   readable = λ b rs q. absurd (not-both q w);
-  refused = λ a′ n′ w′. let e = refused-one w w′ in ap (λ (x : Answer). Checked.Refused x n) (e .0) ∙ ap (λ (k : ℕ). Checked.Refused a′ k) (e .1);
-  only = inr (a, n, w);
+  refused = λ a′ n′ k′ w′. let e = refused-one w w′ in λ i. Checked.Refused (e .0 i) (e .1 i) (e .2 i);
+  only = inr (a, n, k, w);
 }

@@ -5,7 +5,7 @@ use native.Mathlib.Nat.{zero-add}
 use mathlib.Core.Path.{_≡_, refl, sym}
 use mathlib.Core.Logic.{_⊎_, inl, inr, ⊎-elim}
 use mathlib.Core.List.{List}
-use lib.ListN.{length}
+use lib.ListN.{length, drop}
 use Rattle.law.specs.Choice.{lt-or-le}
 use Rattle.record.specs.declared.Board.{Board}
 use Rattle.record.specs.declared.Record.{Record}
@@ -13,6 +13,7 @@ use Rattle.record.specs.declared.Answer.{Answer}
 use Rattle.field.proofs.Reading.{Got}
 use Rattle.line.specs.Boards.{spelledBoard, BoardOk}
 use Rattle.line.specs.Records.{spelled, RecordOk}
+use Rattle.line.specs.Places.{firstBadField, firstBadOfBoard}
 use Rattle.line.proofs.Theorems.{record-same, board-same}
 use Rattle.text.specs.declared.buses.Buses.{Buses}
 use Rattle.text.specs.declared.buses.Moves.{Moves}
@@ -38,12 +39,12 @@ module _ (text : List ℕ) {b : Board} {p : ℕ} (board : Got spelledBoard Board
       ⊎-elim
       (λ z.
       let g : Got spelled RecordOk text at (z .0) (at + length (spelled (z .0))) = record { ok = z .1; stands = z .2; next = refl; only = λ y o t. record-same text at (z .0) y (z .1) o (z .2) t } in
-      ⊎-elim (λ k. (Checked.Refused Answer.BackInTime number, so-back s g k))
+      ⊎-elim (λ k. (Checked.Refused Answer.BackInTime number 0, so-back s g k))
       (λ k.
       ⊎-elim (λ e. within n (at + length (spelled (z .0))) (number + 1) (z .0 .stamp) (e .0) (so-more s g k (e .1)) (omega (arith, got-record-place g)))
-      (λ e. (Checked.Refused Answer.Impossible number, so-impossible s g k e)) (told-moves (moved buses (z .0 .event))))
+      (λ e. (Checked.Refused Answer.Impossible number 0, so-impossible s g k e)) (told-moves (moved buses (z .0 .event))))
       (lt-or-le (z .0 .stamp) last))
-      (λ m. (Checked.Refused Answer.BadLine number, so-bad s l (λ r o t. m (r, o, t)))) (record-here text at))
+      (λ m. (Checked.Refused Answer.BadLine number (firstBadField (drop at text)), so-bad s l (λ r o t. m (r, o, t)) refl)) (record-here text at))
       (λ l. (Checked.Readable b (record { at = p }), so-end s board l)) (lt-or-le at (length text))
 
 some-check : (text : List ℕ) → (r : Checked) × Checks text r
@@ -52,7 +53,7 @@ some-check text =
     (λ z.
     let g : Got spelledBoard BoardOk text 0 (z .0) (length (spelledBoard (z .0))) = record { ok = z .1; stands = z .2; next = sym (zero-add (length (spelledBoard (z .0)))); only = λ y o t. board-same text 0 (z .0) y (z .1) o (z .2) t } in
     within text g (length text) (length (spelledBoard (z .0))) 2 0 allClosed (so-start g refl) (omega arith))
-    (λ m. (Checked.Refused Answer.BadLine 1, no-board (λ b o s. m (b, o, s)))) (board-here text)
+    (λ m. (Checked.Refused Answer.BadLine 1 (firstBadOfBoard text), no-board (λ b o s. m (b, o, s)) refl)) (board-here text)
 
-pub some-reading : (text : List ℕ) → ((b : Board) × (rs : List Record) × Readable text b rs) ⊎ ((a : Answer) × (n : ℕ) × Refused text a n)
+pub some-reading : (text : List ℕ) → ((b : Board) × (rs : List Record) × Readable text b rs) ⊎ ((a : Answer) × (n : ℕ) × (f : ℕ) × Refused text a n f)
 some-reading text = some-check text .1 .only

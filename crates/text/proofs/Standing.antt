@@ -4,7 +4,7 @@ use native.Mathlib.Omega.{arith}
 use native.Mathlib.Nat.{zero-add}
 use mathlib.Core.Path.{_≡_, refl, sym, ap, subst, _∙_}
 use mathlib.Core.List.{List, [], _∷_, _++_, append-assoc, append-nil}
-use lib.ListN.{length, length-append}
+use lib.ListN.{length, drop, length-append}
 use Rattle.record.specs.declared.Record.{Record}
 use Rattle.record.specs.declared.Board.{Board}
 use Rattle.record.specs.declared.Answer.{Answer}
@@ -12,6 +12,7 @@ use Rattle.field.specs.Reads.{Stands}
 use Rattle.field.proofs.Reading.{Got, stands-join, stands-length}
 use Rattle.line.specs.Records.{spelled, RecordOk}
 use Rattle.line.specs.Boards.{spelledBoard, BoardOk}
+use Rattle.line.specs.Places.{firstBadField, firstBadOfBoard}
 use Rattle.line.proofs.OutputLaws.{spelled-length-min, board-length}
 use Rattle.line.proofs.Whole.{nil-of}
 use Rattle.text.specs.declared.buses.Buses.{Buses}
@@ -74,20 +75,22 @@ module _ {text : List ℕ} {b : Board} {at number last : ℕ} {buses : Buses} (s
   here : (w : List ℕ) → Stands text at w → Stands text (length (spelledTrace b (s .rs))) w
   here w h = subst (λ (k : ℕ). Stands text k w) (s .place) h
 
-  refuse : {a : Answer} → Wrong text (length (spelledTrace b (s .rs))) (s .rs) a → Checks text (Checked.Refused a number)
-  refuse {a} w = subst (λ (k : ℕ). Checks text (Checked.Refused a k)) (sym (s .count)) (checks-refused a (length (s .rs) + 2) (badLine b (s .rs) front w))
+  refuse : {a : Answer} {f : ℕ} → Wrong text (length (spelledTrace b (s .rs))) (s .rs) a f → Checks text (Checked.Refused a number f)
+  refuse {a} {f} w = subst (λ (k : ℕ). Checks text (Checked.Refused a k f)) (sym (s .count)) (checks-refused a (length (s .rs) + 2) f (badLine b (s .rs) front w))
 
   -- the next line is no record's
-  pub so-bad : at < length text → ((r : Record) → RecordOk r → Stands text at (spelled r) → ⊥) → Checks text (Checked.Refused Answer.BadLine number)
-  so-bad h n = refuse (noRecord (omega (arith, s .place)) (λ r o t. n r o (subst (λ (k : ℕ). Stands text k (spelled r)) (sym (s .place)) t)))
+  pub so-bad : {f : ℕ} → at < length text → ((r : Record) → RecordOk r → Stands text at (spelled r) → ⊥) → f ≡ firstBadField (drop at text) → Checks text (Checked.Refused Answer.BadLine number f)
+  so-bad h n e =
+      subst (λ (k : ℕ). Checks text (Checked.Refused Answer.BadLine number k)) (sym (e ∙ ap (λ (k : ℕ). firstBadField (drop k text)) (s .place)))
+      (refuse (noRecord (omega (arith, s .place)) (λ r o t. n r o (subst (λ (k : ℕ). Stands text k (spelled r)) (sym (s .place)) t))))
 
   module _ {r : Record} {p : ℕ} (g : Got spelled RecordOk text at r p) where
     -- it falls back in time
-    pub so-back : r .stamp < last → Checks text (Checked.Refused Answer.BackInTime number)
+    pub so-back : r .stamp < last → Checks text (Checked.Refused Answer.BackInTime number 0)
     so-back h = refuse (falls r (g .ok) (here (spelled r) (g .stands)) (omega (arith, s .stamp)))
 
     -- it is impossible
-    pub so-impossible : last ≤ r .stamp → moved buses (r .event) ≡ Moves.Impossible → Checks text (Checked.Refused Answer.Impossible number)
+    pub so-impossible : last ≤ r .stamp → moved buses (r .event) ≡ Moves.Impossible → Checks text (Checked.Refused Answer.Impossible number 0)
     so-impossible h e = refuse (cannot r (g .ok) (here (spelled r) (g .stands)) (omega (arith, s .stamp)) (ap (λ (m : Moves). onwards m (r .event)) (s .state) ∙ e))
 
     -- it is good
@@ -115,5 +118,5 @@ module _ {text : List ℕ} {b : Board} {at number last : ℕ} {buses : Buses} (s
       nothing : length (s .stands .rest) ≡ 0
       nothing = omega (arith, s .place, ap length (s .stands .is), length-append (spelledTrace b (s .rs)) (s .stands .rest))
 
-pub no-board : {text : List ℕ} → ((b : Board) → BoardOk b → Stands text 0 (spelledBoard b) → ⊥) → Checks text (Checked.Refused Answer.BadLine 1)
-no-board n = checks-refused Answer.BadLine 1 (noBoard n)
+pub no-board : {text : List ℕ} {f : ℕ} → ((b : Board) → BoardOk b → Stands text 0 (spelledBoard b) → ⊥) → f ≡ firstBadOfBoard text → Checks text (Checked.Refused Answer.BadLine 1 f)
+no-board {text} n e = subst (λ (k : ℕ). Checks text (Checked.Refused Answer.BadLine 1 k)) (sym e) (checks-refused Answer.BadLine 1 (firstBadOfBoard text) (noBoard n))

@@ -22,7 +22,7 @@ use Rattle.text.proofs.OneReading.{some}
 pub check-determined : (text : List ℕ) (r r′ : Checked) → Checks text r → Checks text r′ → r ≡ r′
 check-determined text r r′ c d =
     ⊎-elim (λ z. c .readable (z .0) (z .1) (z .2) ∙ sym (d .readable (z .0) (z .1) (z .2)))
-    (λ z. c .refused (z .0) (z .1) (z .2) ∙ sym (d .refused (z .0) (z .1) (z .2)))
+    (λ z. c .refused (z .0) (z .1) (z .2) (z .3) ∙ sym (d .refused (z .0) (z .1) (z .2) (z .3)))
     (c .only)
 
 -- ---- how many records there can be

@@ -1,5 +1,5 @@
-// Every malformed form, each impossible record and falling stamps, each printed with the number and the line that it is refused with (0 and 0 where
-// the text can be replayed); then lines that are read and written back, and boards that are written. What is printed is compared with `stdout`.
+// Every malformed form, each impossible record and falling stamps, each printed with the number, the line and the field that it is refused with (0, 0 and 0
+// where the text can be replayed); then lines that are read and written back, and boards that are written. What is printed is compared with `stdout`.
 mod show;
 
 use show::again;
@@ -88,6 +88,14 @@ fn last_line_end() {
         b"board\t00\t1\t0\n10\tF\tsel\n10\tF\tdes",
     );
     answer(b"part of a line", b"board\t00\t1\t0\n10\tF\tsel\n1");
+    answer(b"part of a word", b"board\t00\t1\t0\n10\tF\tse");
+    answer(b"part of a byte", b"board\t00\t1\t0\n10\tF\tx\t0");
+}
+
+fn fields_missing() {
+    answer(b"a stamp alone", b"board\t00\t1\t0\n10\n");
+    answer(b"stamp and channel alone", b"board\t00\t1\t0\n10\tF\n");
+    answer(b"board alone", b"board\n");
 }
 
 fn stamp_digits() {
@@ -367,6 +375,7 @@ fn forms() {
     blanks();
     empty_lines();
     last_line_end();
+    fields_missing();
     stamp_digits();
     stamp_limit();
     stamp_bytes();

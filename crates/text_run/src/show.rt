@@ -4,23 +4,32 @@ use line::Written;
 use record::Board;
 use text::Checked;
 
-fn pair(before: &[u8], number: u32, second: usize) {
+fn pair(number: u32, second: usize) {
     io::print_decimal(1, number as u64);
-    io::write_all(1, before);
+    io::write_all(1, b" ");
     io::print_decimal(1, second as u64);
     io::write_all(1, b"\n");
 }
 
-// The case's name, the refusal's number and its line.
+fn three(number: u32, line: usize, bad: u32) {
+    io::print_decimal(1, number as u64);
+    io::write_all(1, b"\t");
+    io::print_decimal(1, line as u64);
+    io::write_all(1, b"\t");
+    io::print_decimal(1, bad as u64);
+    io::write_all(1, b"\n");
+}
+
+// The case's name, the refusal's number, its line and its field.
 pub(crate) fn answer(name: &[u8], text: &[u8]) {
     io::write_all(1, name);
     io::write_all(1, b"\t");
     match text::check_text(text) {
         Checked::Readable(_, _) => {
-            pair(b"\t", 0, 0);
+            three(0, 0, 0);
         }
-        Checked::Refused(answer, line) => {
-            pair(b"\t", record::answer_number(answer), line);
+        Checked::Refused(answer, line, bad) => {
+            three(record::answer_number(answer), line, bad);
         }
     }
 }
@@ -40,7 +49,7 @@ fn print_written(w: Written, bytes: &[u8]) {
             io::write_all(1, b"10 0\n");
         }
         Written::Length(n) => {
-            pair(b" ", 0, n);
+            pair(0, n);
             print_front(n, bytes);
         }
     }

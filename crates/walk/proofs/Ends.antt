@@ -22,12 +22,12 @@ use Rattle.call.specs.Run.{endedWith, Runs}
 
 -- ---- after the loop the result is written
 pub runs-written : (text : List ℕ) (first : ℕ) (b : Board) (x : Images) (old : List ℕ) (a : Answer) (t c n : ℕ) (y : Images) (left res res′ : List ℕ) →
-    Runs text first b x old (endedWith a t c y left) → old ≡ replicate repliesLength 0 → n ≡ answerNumber a → res′ ≡ resultAfter n t c res → length res ≡ resultLength →
+    Runs text first b x old (endedWith a t c y left) → old ≡ replicate repliesLength 0 → n ≡ answerNumber a → res′ ≡ resultAfter n t c 0 res → length res ≡ resultLength →
     Runs text first b x (replicate repliesLength 0) (endedAs n (record { images = y; replies = left; result = res′ }))
 runs-written text first b x old a t c n y left res res′ r z h w l =
-    let k = w ∙ result-written n t c res l in
+    let k = w ∙ result-written n t c 0 res l in
     subst (λ (k : Ended). Runs text first b x (replicate repliesLength 0) k)
-    (λ i. endedAs (sym h i) (record { images = y; replies = left; result = sym (k ∙ ap (λ (m : ℕ). resultBytes m t c) h) i }))
+    (λ i. endedAs (sym h i) (record { images = y; replies = left; result = sym (k ∙ ap (λ (m : ℕ). resultBytes m t c 0) h) i }))
     (subst (λ (l : List ℕ). Runs text first b x l (endedWith a t c y left)) z r)
 
 clash : {A : Type 0} {t : Bool} → t ≡ true → t ≡ false → A
@@ -37,14 +37,14 @@ clash h k = absurd (true-not-false (sym h ∙ k))
 abbrev refusal : ℕ → Buffers → List ℕ → Ended
 refusal n x res = endedAs n (record { images = x .images; replies = x .replies; result = res })
 
-refusal-is : (a : Answer) (line n : ℕ) (x : Buffers) (res : List ℕ) → n ≡ answerNumber a → res ≡ resultAfter (answerNumber a) line 0 (x .result) → refusal n x res ≡ refusedAs a line x
+refusal-is : (a : Answer) (line field n : ℕ) (x : Buffers) (res : List ℕ) → n ≡ answerNumber a → res ≡ resultAfter (answerNumber a) line 0 field (x .result) → refusal n x res ≡ refusedAs a line field x
 unfolding refusedAs
-refusal-is a line n x res h w = λ i. refusal (h i) x (w i)
+refusal-is a line field n x res h w = λ i. refusal (h i) x (w i)
 
 module _ (text : List ℕ) (x : Buffers) where
-  pub replays-unfit : (n : ℕ) (res : List ℕ) → fit x ≡ false → n ≡ answerNumber Answer.BadBuffers → res ≡ resultAfter (answerNumber Answer.BadBuffers) 0 0 (x .result) → Replays text x (refusal n x res)
+  pub replays-unfit : (n : ℕ) (res : List ℕ) → fit x ≡ false → n ≡ answerNumber Answer.BadBuffers → res ≡ resultAfter (answerNumber Answer.BadBuffers) 0 0 0 (x .result) → Replays text x (refusal n x res)
   replays-unfit n res u h w = record {
-    unfit = λ k. refusal-is Answer.BadBuffers 0 n x res h w;
+    unfit = λ k. refusal-is Answer.BadBuffers 0 0 n x res h w;
     long = λ k. clash k u;
     bad = λ k. clash k u;
     played = λ k. clash k u;
@@ -52,10 +52,10 @@ module _ (text : List ℕ) (x : Buffers) where
   }
 
   module _ (fits : fit x ≡ true) where
-    pub replays-long : (n : ℕ) (res : List ℕ) → ltb textLimit (length text) ≡ true → n ≡ answerNumber Answer.TooLong → res ≡ resultAfter (answerNumber Answer.TooLong) 0 0 (x .result) → Replays text x (refusal n x res)
+    pub replays-long : (n : ℕ) (res : List ℕ) → ltb textLimit (length text) ≡ true → n ≡ answerNumber Answer.TooLong → res ≡ resultAfter (answerNumber Answer.TooLong) 0 0 0 (x .result) → Replays text x (refusal n x res)
     replays-long n res u h w = record {
       unfit = λ k. clash fits k;
-      long = λ k l. refusal-is Answer.TooLong 0 n x res h w;
+      long = λ k l. refusal-is Answer.TooLong 0 0 n x res h w;
       bad = λ k l. clash u l;
       played = λ k l. clash u l;
       read = λ k l. clash u l;
@@ -65,31 +65,35 @@ module _ (text : List ℕ) (x : Buffers) where
       -- what the check answered
       abbrev IsReadable : Checked → Type 0
       IsReadable (Checked.Readable b c) = Unit {0}
-      IsReadable (Checked.Refused a n) = ⊥
+      IsReadable (Checked.Refused a n f) = ⊥
 
       abbrev boardOf : Board → Checked → Board
       boardOf d (Checked.Readable b c) = b
-      boardOf d (Checked.Refused a n) = d
+      boardOf d (Checked.Refused a n f) = d
 
       abbrev placeOf : Checked → ℕ
       placeOf (Checked.Readable b c) = c .at
-      placeOf (Checked.Refused a n) = 0
+      placeOf (Checked.Refused a n f) = 0
 
       abbrev answerOf : Answer → Checked → Answer
       answerOf d (Checked.Readable b c) = d
-      answerOf d (Checked.Refused a n) = a
+      answerOf d (Checked.Refused a n f) = a
 
       abbrev lineOf : Checked → ℕ
       lineOf (Checked.Readable b c) = 0
-      lineOf (Checked.Refused a n) = n
+      lineOf (Checked.Refused a n f) = n
 
-      pub replays-bad : (a : Answer) (line : ℕ) → r ≡ Checked.Refused a line → (n : ℕ) (res : List ℕ) → n ≡ answerNumber a → res ≡ resultAfter (answerNumber a) line 0 (x .result) → Replays text x (refusal n x res)
-      replays-bad a line is n res h w = record {
+      abbrev fieldOf : Checked → ℕ
+      fieldOf (Checked.Readable b c) = 0
+      fieldOf (Checked.Refused a n f) = f
+
+      pub replays-bad : (a : Answer) (line field : ℕ) → r ≡ Checked.Refused a line field → (n : ℕ) (res : List ℕ) → n ≡ answerNumber a → res ≡ resultAfter (answerNumber a) line 0 field (x .result) → Replays text x (refusal n x res)
+      replays-bad a line field is n res h w = record {
         unfit = λ k. clash fits k;
         long = λ k l. clash l short;
-        bad = λ k l c m q.
-            let e = sym is ∙ checks .refused c m q in
-            refusal-is a line n x res h w ∙ ap (λ (y : Checked). refusedAs (answerOf a y) (lineOf y) x) e;
+        bad = λ k l c m f q.
+            let e = sym is ∙ checks .refused c m f q in
+            refusal-is a line field n x res h w ∙ ap (λ (y : Checked). refusedAs (answerOf a y) (lineOf y) (fieldOf y) x) e;
         played = λ k l b rs q. absurd (subst IsReadable (sym (checks .readable b rs q) ∙ is) tt);
         read = λ k l. checks .only;
       }
@@ -98,7 +102,7 @@ module _ (text : List ℕ) (x : Buffers) where
       replays-played b c is e runs = record {
         unfit = λ k. clash fits k;
         long = λ k l. clash l short;
-        bad = λ k l a n q. absurd (subst IsReadable (sym is ∙ checks .refused a n q) tt);
+        bad = λ k l a n f q. absurd (subst IsReadable (sym is ∙ checks .refused a n f q) tt);
         played = λ k l d rs q.
             let h = sym (checks .readable d rs q) ∙ is in
             let same-board : d ≡ b = ap (boardOf d) h in

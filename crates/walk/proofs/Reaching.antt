@@ -59,7 +59,7 @@ module _ (b : Board) (lent : Images) where
   lines-long (r ∷ o) s = let ih = lines-long o (onMachine b .play s r) in omega arith
 
   pub shows : (n t : ℕ) (o : List Record) (d : Desk) → d ≡ runDesk b o started → 4 * length o ≤ repliesLength →
-      endedAs n (record { images = d .machine .images; replies = d .replies; result = resultBytes n t (d .count) }) ≡ shownAs b n t o (outcome (onMachine b) o start)
+      endedAs n (record { images = d .machine .images; replies = d .replies; result = resultBytes n t (d .count) 0 }) ≡ shownAs b n t o (outcome (onMachine b) o start)
   unfolding shownAs padded
   shows n t o d p l =
       let m : d .machine ≡ after (onMachine b) o start = ap (λ (x : Desk). x .machine) p ∙ run-machine b o started in
@@ -72,7 +72,7 @@ module _ (b : Board) (lent : Images) where
       ∙ run-replies b o started [] (repliesLength - 4 * length o) (ap (λ (x : ℕ). replicate x 0) k) refl (length-replicate {A = ℕ} repliesLength 0) (omega arith) in
       let h = g ∙ ap (λ (x : ℕ). replyLines o (said (onMachine b) o start) ++ replicate (repliesLength - x) 0) (sym (lines-long o start))
       ∙ ap (λ (ys : List Reply). replyLines o ys ++ replicate (repliesLength - length (replyLines o ys)) 0) y in
-      λ i. endedAs n (record { images = m i .images; replies = h i; result = resultBytes n t (c i) })
+      λ i. endedAs n (record { images = m i .images; replies = h i; result = resultBytes n t (c i) 0 })
 
 -- ---- the loop has come to the place with the desk d
 module _ (text : List ℕ) (b : Board) (rs : List Record) (lent : Images) (readable : Readable text b rs) where

@@ -1,5 +1,5 @@
-//! The replay of document 01 with request 3/12 in plain Rust, to be measured beside the proved one: the text is read once
-//! into records, then each order of a stamp is tried from a fresh copy of the chip with its image. It is written from the
+//! The replay of document 01 with requests 2/12 and 3/12 in plain Rust, to be measured beside the proved one: the text is read
+//! once into records, then each order of a stamp is tried from a fresh copy of the chip with its image. It is written from the
 //! documents and shares nothing with the proved code.
 
 mod eeprom;

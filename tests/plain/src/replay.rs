@@ -9,7 +9,7 @@ use crate::text::read;
 use std::mem::swap;
 
 const REPLIES: usize = 40_000;
-const RESULT: usize = 12;
+const RESULT: usize = 16;
 
 /// What the caller lends beside the text.
 pub struct Buffers<'a> {
@@ -22,20 +22,20 @@ pub struct Buffers<'a> {
 }
 
 pub fn replay(text: &[u8], buffers: &mut Buffers) -> u32 {
-    let (answer, place, count) = if !buffers.fit() {
-        (1, 0, 0)
+    let numbers = if !buffers.fit() {
+        [1, 0, 0, 0]
     } else {
         match read(text) {
-            Err(refusal) => (refusal.number, refusal.line, 0),
+            Err(refusal) => [refusal.number, refusal.line, 0, refusal.field],
             Ok((board, records)) => buffers.play(board, &records),
         }
     };
     if buffers.result.len() == RESULT {
-        buffers.result[0..4].copy_from_slice(&answer.to_le_bytes());
-        buffers.result[4..8].copy_from_slice(&place.to_le_bytes());
-        buffers.result[8..12].copy_from_slice(&count.to_le_bytes());
+        for (place, number) in buffers.result.chunks_exact_mut(4).zip(numbers) {
+            place.copy_from_slice(&number.to_le_bytes());
+        }
     }
-    answer
+    numbers[0]
 }
 
 impl Buffers<'_> {
@@ -50,8 +50,8 @@ impl Buffers<'_> {
             && !has_bit_in_both(self.eeprom, self.eeprom_mask)
     }
 
-    /// All stamps; the answer, the stamp of a stop, and the count.
-    fn play(&mut self, board: Board, records: &[Record]) -> (u32, u32, u32) {
+    /// All stamps; the answer, the stamp of a stop, the count, and no field.
+    fn play(&mut self, board: Board, records: &[Record]) -> [u32; 4] {
         let mut flash = [Flash::at_start(board.status, board.watched); 3];
         let mut eeprom = [Eeprom::at_start(board.address); 3];
         flash[0].image.take(self.flash, self.flash_mask);
@@ -63,10 +63,10 @@ impl Buffers<'_> {
             channels: Channels::default(),
         };
         self.replies.fill(0);
-        let ending = desk.stamps(records, self.replies);
+        let (answer, stamp, count) = desk.stamps(records, self.replies);
         desk.flash.now.image.give(self.flash, self.flash_mask);
         desk.eeprom.now.image.give(self.eeprom, self.eeprom_mask);
-        ending
+        [answer, stamp, count, 0]
     }
 }
 

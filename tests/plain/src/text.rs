@@ -9,31 +9,28 @@ const STATUS_BITS: u8 = 0b1000_1100;
 pub struct Refusal {
     pub number: u32,
     pub line: u32,
+    pub field: u32,
 }
+
+/// The number of a line's first bad field (request 2/12).
+type BadField = u32;
 
 pub fn read(text: &[u8]) -> Result<(Board, Vec<Record>), Refusal> {
     if text.len() > LONGEST {
-        return Err(Refusal { number: 2, line: 0 });
+        return Err(Refusal { number: 2, line: 0, field: 0 });
     }
     let mut lines = text.split_inclusive(|&byte| byte == b'\n');
-    let board = match lines.next().and_then(board) {
-        Some(board) => board,
-        None => return Err(Refusal { number: 3, line: 1 }),
-    };
+    let board = board(lines.next().unwrap_or(&[])).map_err(|field| Refusal { number: 3, line: 1, field })?;
     let mut records: Vec<Record> = Vec::with_capacity(text.len() / SHORTEST_LINE);
     let mut buses = Buses::default();
     let mut before = 0;
-    for (line, above) in lines.zip(1..) {
-        let refused = |number| Err(Refusal { number, line: above + 1 });
-        let record = match record(line) {
-            Some(record) => record,
-            None => return refused(3),
-        };
+    for (content, line) in lines.zip(2..) {
+        let record = record(content).map_err(|field| Refusal { number: 3, line, field })?;
         if record.stamp < before {
-            return refused(4);
+            return Err(Refusal { number: 4, line, field: 0 });
         }
         if !buses.allow(record.event) {
-            return refused(5);
+            return Err(Refusal { number: 5, line, field: 0 });
         }
         before = record.stamp;
         records.push(record);
@@ -41,50 +38,90 @@ pub fn read(text: &[u8]) -> Result<(Board, Vec<Record>), Refusal> {
     Ok((board, records))
 }
 
-fn fields(line: &[u8]) -> Option<impl Iterator<Item = &[u8]>> {
-    match line {
-        [content @ .., b'\n'] => Some(content.split(|&byte| byte == b'\t')),
-        _ => None,
-    }
+/// A line's fields from the left, and how many of them were asked for.
+struct Fields<I> {
+    left: I,
+    asked: BadField,
+    has_lf: bool,
 }
 
-fn board(line: &[u8]) -> Option<Board> {
-    let mut fields = fields(line)?;
-    if fields.next()? != b"board" {
-        return None;
-    }
-    let status = hex(fields.next()?)?;
-    let watched = digit(fields.next()?, 4)?;
-    let address = digit(fields.next()?, 7)?;
-    if status & !STATUS_BITS != 0 || watched == 0 || fields.next().is_some() {
-        return None;
-    }
-    Some(Board { status, watched, address })
-}
-
-fn record(line: &[u8]) -> Option<Record> {
-    let mut fields = fields(line)?;
-    let stamp = stamp(fields.next()?)?;
-    let event = match (fields.next()?, fields.next()?) {
-        (b"F", b"sel") => Event::Flash(FlashEvent::Sel),
-        (b"F", b"x") => Event::Flash(FlashEvent::X { si: hex(fields.next()?)?, so: hex(fields.next()?)? }),
-        (b"F", b"cut") => Event::Flash(FlashEvent::Cut),
-        (b"F", b"des") => Event::Flash(FlashEvent::Des),
-        (b"F", b"end") => Event::Flash(FlashEvent::End),
-        (b"E", b"sta") => Event::Eeprom(EepromEvent::Sta),
-        (b"E", b"b") => Event::Eeprom(EepromEvent::B { byte: hex(fields.next()?)?, nak: digit(fields.next()?, 1)? == 1 }),
-        (b"E", b"cut") => Event::Eeprom(EepromEvent::Cut),
-        (b"E", b"sto") => Event::Eeprom(EepromEvent::Sto),
-        (b"E", b"end") => Event::Eeprom(EepromEvent::End),
-        (b"L", b"on") => Event::Line(LineEvent::On),
-        (b"L", b"off") => Event::Line(LineEvent::Off),
-        (b"L", b"lock") => Event::Line(LineEvent::Lock),
-        (b"L", b"free") => Event::Line(LineEvent::Free),
-        _ => return None,
+fn fields(line: &[u8]) -> Fields<impl Iterator<Item = &[u8]>> {
+    let (content, has_lf) = match line {
+        [content @ .., b'\n'] => (content, true),
+        _ => (line, false),
     };
-    match fields.next() {
-        Some(_) => None,
-        None => Some(Record { stamp, event }),
+    Fields { left: content.split(|&byte| byte == b'\t'), asked: 0, has_lf }
+}
+
+impl<'a, I: Iterator<Item = &'a [u8]>> Fields<I> {
+    /// The next field, which must be there with content that its place allows.
+    fn next<T>(&mut self, value: impl FnOnce(&'a [u8]) -> Option<T>) -> Result<T, BadField> {
+        self.asked += 1;
+        self.left.next().and_then(value).ok_or(self.asked)
+    }
+
+    /// Nothing but the LF comes behind the last field.
+    fn end(&mut self) -> Result<(), BadField> {
+        if self.has_lf && self.left.next().is_none() {
+            Ok(())
+        } else {
+            Err(self.asked + 1)
+        }
+    }
+}
+
+fn board(line: &[u8]) -> Result<Board, BadField> {
+    let mut fields = fields(line);
+    fields.next(|field| (field == b"board").then_some(()))?;
+    let status = fields.next(|field| hex(field).filter(|status| status & !STATUS_BITS == 0))?;
+    let watched = fields.next(|field| digit(field, 4).filter(|&watched| watched != 0))?;
+    let address = fields.next(|field| digit(field, 7))?;
+    fields.end()?;
+    Ok(Board { status, watched, address })
+}
+
+fn record(line: &[u8]) -> Result<Record, BadField> {
+    let mut fields = fields(line);
+    let stamp = fields.next(stamp)?;
+    let event = match fields.next(Some)? {
+        b"F" => Event::Flash(flash_event(&mut fields)?),
+        b"E" => Event::Eeprom(eeprom_event(&mut fields)?),
+        b"L" => Event::Line(fields.next(line_event)?),
+        _ => return Err(fields.asked),
+    };
+    fields.end()?;
+    Ok(Record { stamp, event })
+}
+
+fn flash_event<'a>(fields: &mut Fields<impl Iterator<Item = &'a [u8]>>) -> Result<FlashEvent, BadField> {
+    match fields.next(Some)? {
+        b"sel" => Ok(FlashEvent::Sel),
+        b"x" => Ok(FlashEvent::X { si: fields.next(hex)?, so: fields.next(hex)? }),
+        b"cut" => Ok(FlashEvent::Cut),
+        b"des" => Ok(FlashEvent::Des),
+        b"end" => Ok(FlashEvent::End),
+        _ => Err(fields.asked),
+    }
+}
+
+fn eeprom_event<'a>(fields: &mut Fields<impl Iterator<Item = &'a [u8]>>) -> Result<EepromEvent, BadField> {
+    match fields.next(Some)? {
+        b"sta" => Ok(EepromEvent::Sta),
+        b"b" => Ok(EepromEvent::B { byte: fields.next(hex)?, nak: fields.next(|field| digit(field, 1))? == 1 }),
+        b"cut" => Ok(EepromEvent::Cut),
+        b"sto" => Ok(EepromEvent::Sto),
+        b"end" => Ok(EepromEvent::End),
+        _ => Err(fields.asked),
+    }
+}
+
+fn line_event(field: &[u8]) -> Option<LineEvent> {
+    match field {
+        b"on" => Some(LineEvent::On),
+        b"off" => Some(LineEvent::Off),
+        b"lock" => Some(LineEvent::Lock),
+        b"free" => Some(LineEvent::Free),
+        _ => None,
     }
 }
 

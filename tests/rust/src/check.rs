@@ -8,6 +8,7 @@ use crate::generate::prepared::prepared;
 use crate::generate::random::Random;
 use crate::generate::reorder::reorder;
 use crate::generate::samples;
+use crate::generate::spoilt;
 use crate::model::call::{Call, REPLIES, RESULT};
 use crate::model::kept::KEPT;
 use crate::model::stamp::Orders;
@@ -51,6 +52,7 @@ pub fn check(plan: &Plan) -> io::Result<bool> {
     checker.joint_orders((plan.cases / 50).max(8))?;
     checker.reordered((plan.cases / 12).max(8))?;
     checker.prefixes((plan.cases / 3000).max(2))?;
+    checker.spoilt_texts()?;
     let mut ending = checker.report.group("the driver's own end");
     let status = checker.driver.stop()?;
     ending.judge(0, || if status.success() { None } else { Some(format!("the driver ended with {}", status)) }, &[]);
@@ -138,6 +140,15 @@ impl Checker {
         let whole: Vec<Call> = (0..count).map(|number| kinds::probe(&mut random, number)).collect();
         let calls = whole.iter().flat_map(prefixes_of);
         self.compared(name, calls, Orders::EachBusWithLines)
+    }
+
+    /// A trace with every kind of line, spoilt at each of its bytes in each way.
+    fn spoilt_texts(&mut self) -> io::Result<()> {
+        for (name, spoil) in spoilt::WAYS {
+            let calls = spoilt::texts(spoil).map(|text| Start::Counting.call(text));
+            self.compared(name, calls, Orders::EachBusWithLines)?;
+        }
+        Ok(())
     }
 
     fn random_for(&self, name: &str) -> Random {
@@ -234,8 +245,13 @@ fn told(which: usize, place: usize, due: &[u8], found: &[u8]) -> String {
             let first = place / 4 * 4;
             format!(" at line {}: {:?} where {:?} is due", place / 4 + 2, &found[first..first + 4], &due[first..first + 4])
         }
-        (6, RESULT) => format!(": {:?} where {:?} is due", found, due),
+        (6, RESULT) => format!(": {:?} where {:?} is due", numbers(found), numbers(due)),
         (1..=4, KEPT) => format!(" at {:04x}: {:02x} where {:02x} is due", place, found[place], due[place]),
         _ => format!(" at byte {}: {:02x} where {:02x} is due", place, found[place], due[place]),
     }
+}
+
+/// The numbers of a result.
+fn numbers(result: &[u8]) -> Vec<u32> {
+    result.chunks_exact(4).map(|four| u32::from_le_bytes([four[0], four[1], four[2], four[3]])).collect()
 }

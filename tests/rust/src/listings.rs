@@ -33,7 +33,16 @@ pub struct Plan {
     pub seed: u64,
 }
 
-const KINDS: [Kind; 6] = [kinds::session, kinds::probe, kinds::damaged, kinds::limit, kinds::words, kinds::tied_session];
+const KINDS: [Kind; 8] = [
+    kinds::session,
+    kinds::probe,
+    kinds::damaged,
+    kinds::limit,
+    kinds::words,
+    kinds::tied_session,
+    kinds::mutated,
+    kinds::board_lines,
+];
 
 pub fn check(plan: &Plan) -> io::Result<bool> {
     let command = whole_paths(&plan.command);
@@ -50,7 +59,11 @@ pub fn check(plan: &Plan) -> io::Result<bool> {
     let mut group = report.group("listings of generated files");
     let mut random = Random::seeded(plan.seed);
     for number in 0..plan.cases {
-        let call = if number % 50 == 49 { kinds::long(&mut random, number / 50) } else { KINDS[number % 6](&mut random, number) };
+        let call = if number % 50 == 49 {
+            kinds::long(&mut random, number / 50)
+        } else {
+            KINDS[number % KINDS.len()](&mut random, number)
+        };
         let files = files_for(&mut random, &call);
         judge(&mut group, &command, &files, &[&call]);
     }

@@ -1,4 +1,5 @@
-//! The independent check of the replay: a plain model of document 01 with request 3/12, generated traces, and a comparison over pipes.
+//! The independent check of the replay: a plain model of document 01 with requests 2/12 and 3/12, generated traces, and a
+//! comparison over pipes.
 //!
 //!   hazelcrook-check check DRIVER_COMMAND [--cases N] [--seed S] [--long]
 //!   hazelcrook-check listings REPLAY_COMMAND [--cases N] [--seed S]

@@ -1,11 +1,11 @@
--- `buffers::put_result`: three words over the whole of it. Assumes nothing.
+-- `buffers::put_result`: four words over the whole of it. Assumes nothing.
 use mathlib.Core.Path.{ap, _∙_}
 use mathlib.Core.List.{List}
 use Prim.Native.Nat.{ℕ}
 use borrow.Author.Tests.{ne-eqb}
 use lib.Seq.{sets}
 use Rattle.buffers.specs.Buffers.{word, resultAfter}
-use Rattle.buffers.proofs.Result.{three-words}
+use Rattle.buffers.proofs.Result.{four-words}
 use borrow.Author.Needs.{needs}
 use Rattle.buffers.proofs.put_result.Statement.{statement}
 use Rattle.buffers.proofs.put_result.Tie as tie
@@ -23,16 +23,20 @@ put-word-requires-2 c κs = search needs
 put-word-requires-3 : tie.Need-put-word-requires-3
 put-word-requires-3 c κs = search needs
 
+put-word-requires-4 : tie.Need-put-word-requires-4
+put-word-requires-4 c κs = search needs
+
 same-length : tie.Need-same-length
 same-length c = search needs
 
 returns-2 : tie.Need-returns-2
 returns-2 c =
-    let a = c .before .before .before .before .before .before .before .before .before .before .before .before .before .before .args in
-    c .before .before .put-word3 .ensures
-    ∙ ap (λ (l : List ℕ). sets l 8 (word (a .count))) (c .before .before .before .before .before .before .put-word2 .ensures)
-    ∙ ap (λ (l : List ℕ). sets (sets l 4 (word (a .number))) 8 (word (a .count))) (c .before .before .before .before .before .before .before .before .before .before .put-word .ensures)
-    ∙ three-words (a .answer) (a .number) (a .count) (a .result .now) (c .before .before .before .before .before .before .before .before .before .before .before .before .if1 .left)
+    let a = c .before .before .before .before .before .before .before .before .before .before .before .before .before .before .before .before .before .before .args in
+    c .before .before .put-word4 .ensures
+    ∙ ap (λ (l : List ℕ). sets l 12 (word (a .field))) (c .before .before .before .before .before .before .put-word3 .ensures)
+    ∙ ap (λ (l : List ℕ). sets (sets l 8 (word (a .count))) 12 (word (a .field))) (c .before .before .before .before .before .before .before .before .before .before .put-word2 .ensures)
+    ∙ ap (λ (l : List ℕ). sets (sets (sets l 4 (word (a .number))) 8 (word (a .count))) 12 (word (a .field))) (c .before .before .before .before .before .before .before .before .before .before .before .before .before .before .put-word .ensures)
+    ∙ four-words (a .answer) (a .number) (a .count) (a .field) (a .result .now) (c .before .before .before .before .before .before .before .before .before .before .before .before .before .before .before .before .if1 .left)
 
 pub put-result-spec : {M : Type 1} → statement M
 put-result-spec =
@@ -42,5 +46,6 @@ put-result-spec =
     put-word-requires
     put-word-requires-2
     put-word-requires-3
+    put-word-requires-4
     same-length
     returns-2)

@@ -126,7 +126,7 @@ returns-4 : tie.Need-returns-4
 returns-4 c =
     let r = c .before .before .refuse3 .ensures in
     replays-bad _ _ (via (c .before .before .before .before .before .before .before .before .before .before .before .fits-all .ensures) (not-false _ (c .before .before .before .before .before .before .before .before .before .before .if1 .left))) (via (c .before .before .before .before .before .before .before .before .before .too-long .ensures) (c .before .before .before .before .before .before .before .before .if2 .left)) _ (c .before .before .before .before .before .before .before .check-text .ensures)
-    _ _ (c .before .before .before .before .before .checked2 .given .1) _ _ (r .0) (r .1)
+    _ _ _ (c .before .before .before .before .before .checked2 .given .1) _ _ (r .0) (r .1)
 
 pub hazelcrook-replay-spec : {M : Type 1} → statement M
 hazelcrook-replay-spec =

@@ -17,7 +17,7 @@ same-length c = search needs
 returns : tie.Need-returns
 returns c =
     let a = c .before .before .before .before .answer-number .ensures in
-    (a, c .before .before .put-result .ensures ∙ ap (λ (n : ℕ). resultAfter n (c .before .before .before .before .before .before .args .line) 0 (c .before .before .before .before .before .before .args .result .now)) a)
+    (a, c .before .before .put-result .ensures ∙ ap (λ (n : ℕ). resultAfter n (c .before .before .before .before .before .before .args .line) 0 (c .before .before .before .before .before .before .args .field) (c .before .before .before .before .before .before .args .result .now)) a)
 
 pub refuse-spec : {M : Type 1} → statement M
 refuse-spec = tie.close (tie.spec answer-number-requires put-result-requires same-length returns)

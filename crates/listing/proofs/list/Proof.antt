@@ -1,6 +1,7 @@
 use Rattle.listing.proofs.Whole.{other-replies, other-result, other-output, played-room, ended, refused}
 use Rattle.listing.proofs.Lengths.{last-length, refused-length, fits}
 use native.Mathlib.Omega.{arith}
+use Rattle.law.specs.Choice.{via}
 use borrow.Author.Needs.{needs}
 use Rattle.listing.proofs.list.Statement.{statement}
 use Rattle.listing.proofs.list.Tie as tie
@@ -26,17 +27,20 @@ number-at-requires-3 c κs = search needs
 is-refusal-requires : tie.Need-is-refusal-requires
 is-refusal-requires c κs = search needs
 
+number-at-requires-4 : tie.Need-number-at-requires-4
+number-at-requires-4 c κs = search needs
+
 refused-line-requires : tie.Need-refused-line-requires
 refused-line-requires c κs = search needs
 
 copy-line-requires : tie.Need-copy-line-requires
-copy-line-requires c κs = (fits _ (c .before .refused-line .ensures) (refused-length _ _ (search needs) (search needs)), omega arith)
+copy-line-requires c κs = (fits _ (c .before .refused-line .ensures) (refused-length _ _ _ (via (c .before .before .before .before .is-refusal .ensures) (c .before .before .before .if4 .taken)) (search needs) (search needs)), omega arith)
 
 same-length : tie.Need-same-length
 same-length c = search needs
 
 returns-4 : tie.Need-returns-4
-returns-4 c = refused (c .before .before .before .before .before .before .before .before .before .before .before .before .if1 .left) (c .before .before .before .before .before .before .before .before .before .before .before .if2 .left) (c .before .before .before .before .before .before .before .before .before .before .if3 .left) (c .before .before .before .before .before .before .before .before .before .number-at .ensures) (c .before .before .before .before .before .before .before .before .number-at2 .ensures) (c .before .before .before .before .before .before .is-refusal .ensures) (search needs) (search needs) (c .before .before .before .before .before .if4 .taken) (c .before .before .before .before .refused-line .ensures) (c .before .before .copy-line .ensures .0) (c .before .before .copy-line .ensures .1)
+returns-4 c = refused (c .before .before .before .before .before .before .before .before .before .before .before .before .before .if1 .left) (c .before .before .before .before .before .before .before .before .before .before .before .before .if2 .left) (c .before .before .before .before .before .before .before .before .before .before .before .if3 .left) (c .before .before .before .before .before .before .before .before .before .before .number-at .ensures) (c .before .before .before .before .before .before .before .before .before .number-at2 .ensures) (c .before .before .before .before .before .before .before .is-refusal .ensures) (search needs) (search needs) (c .before .before .before .before .before .before .if4 .taken) (c .before .before .before .before .before .number-at4 .ensures) (search needs) (c .before .before .before .before .refused-line .ensures) (c .before .before .copy-line .ensures .0) (c .before .before .copy-line .ensures .1)
 
 list-played-requires : tie.Need-list-played-requires
 list-played-requires c κs = search needs
@@ -64,6 +68,7 @@ list-spec =
     number-at-requires-2
     number-at-requires-3
     is-refusal-requires
+    number-at-requires-4
     refused-line-requires
     copy-line-requires
     same-length

@@ -151,10 +151,10 @@ fn case_12() -> Fixed {
 
 fn sectors() -> Vec<Fixed> {
     vec![
-        refused("sector 0", b"board\t00\t0\t0\n", 3, 1),
+        refused("sector 0", b"board\t00\t0\t0\n", [3, 1, 3]),
         script("sector 1", Start::Counting, "board 00 1 0").read(10, "00 00 02", "02/00").settled(0),
         script("sector 4", Start::Counting, "board 00 4 0").read(10, "01 80 02", "02/00").settled(0),
-        refused("sector 5", b"board\t00\t5\t0\n", 3, 1),
+        refused("sector 5", b"board\t00\t5\t0\n", [3, 1, 3]),
     ]
 }
 
@@ -176,9 +176,9 @@ fn lengths() -> Vec<Fixed> {
     let records: Vec<&str> = longest.lines().skip(1).collect();
     vec![
         script("65,536 bytes", Start::Doubtful, "board 00 1 0").add(&records.join("|")).settled(0),
-        refused("65,537 bytes", &text_of(TEXT_MOST + 1), 2, 0),
-        refused("65,537 bytes without form", &[0x41; TEXT_MOST + 1], 2, 0),
-        refused("65,536 bytes without form", &[0x41; TEXT_MOST], 3, 1),
-        refused("65,536 line ends", &[b'\n'; TEXT_MOST], 3, 1),
+        refused("65,537 bytes", &text_of(TEXT_MOST + 1), [2, 0, 0]),
+        refused("65,537 bytes without form", &[0x41; TEXT_MOST + 1], [2, 0, 0]),
+        refused("65,536 bytes without form", &[0x41; TEXT_MOST], [3, 1, 1]),
+        refused("65,536 line ends", &[b'\n'; TEXT_MOST], [3, 1, 1]),
     ]
 }

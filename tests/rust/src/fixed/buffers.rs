@@ -16,6 +16,7 @@ pub fn cases() -> Vec<Fixed> {
     }
     cases.extend([0, 77, KEPT - 1].iter().flat_map(|&place| bits_in_both(place)));
     cases.push(before_the_text());
+    cases.extend([12, 15, 17].iter().map(|&length| result_before_the_text(length)));
     cases.push(before_too_long_a_text());
     cases.push(everything_empty_but_the_text());
     cases.push(full_bytes_apart());
@@ -29,8 +30,8 @@ fn trace() -> Vec<u8> {
 /// Refusal 1: the result tells it where it can be written, the rest stays.
 fn refused(name: String, call: Call) -> Fixed {
     let mut after = call.clone();
-    if after.result.len() == 12 {
-        after.result = result_bytes(1, 0, 0);
+    if after.result.len() == 16 {
+        after.result = result_bytes([1, 0, 0, 0]);
     }
     Fixed { name, call, answer: 1, after }
 }
@@ -39,7 +40,7 @@ fn wrong_lengths(place: usize) -> Vec<Fixed> {
     let right = Start::Counting.call(trace()).buffers()[place + 1].len();
     let mut lengths = vec![0, 1, right - 1, right + 1, 2 * right];
     if place == RESULT_PLACE {
-        lengths.extend([4, 8, 16]);
+        lengths.extend([4, 8, 12]);
     }
     lengths.into_iter().map(|length| wrong_length(place, length)).collect()
 }
@@ -66,6 +67,13 @@ fn before_the_text() -> Fixed {
     refused(String::from("a wrong buffer comes before a wrong text"), call)
 }
 
+/// No field of a bad line is told either.
+fn result_before_the_text(length: usize) -> Fixed {
+    let mut call = Start::Counting.call(b"board\t00\t1\t0\n10\tF\tsle\n".to_vec());
+    call.result.resize(length, 0xa5);
+    refused(format!("a result of {} bytes comes before a wrong text", length), call)
+}
+
 fn before_too_long_a_text() -> Fixed {
     let mut call = Start::Counting.call(vec![b'\n'; TEXT_MOST + 1]);
     call.flash_mask[9] = 0xff;
@@ -89,6 +97,6 @@ fn full_bytes_apart() -> Fixed {
     let mut after = call.clone();
     after.replies = vec![0; 40_000];
     after.replies[..12].copy_from_slice(&[1, 0, 0, 0, 1, 0, 0, 0, 2, 0, 0, 2]);
-    after.result = result_bytes(0, 0, 1);
+    after.result = result_bytes([0, 0, 1, 0]);
     Fixed { name: String::from("value and mask full but apart"), call, answer: 0, after }
 }

@@ -1,5 +1,6 @@
 //! Cases with their whole outcome written by hand, from the rules and not from the model.
 
+mod bad_fields;
 mod bench_sheet;
 mod buffers;
 mod cut_pages;
@@ -24,6 +25,7 @@ pub fn all() -> Vec<Fixed> {
     let mut cases = Vec::new();
     cases.extend(bench_sheet::cases());
     cases.extend(forms::cases());
+    cases.extend(bad_fields::cases());
     cases.extend(flash_cases::cases());
     cases.extend(eeprom_cases::cases());
     cases.extend(cut_pages::cases());

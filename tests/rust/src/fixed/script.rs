@@ -184,16 +184,16 @@ impl Script {
         }
         after.replies = replies.concat();
         after.replies.resize(REPLIES, 0);
-        after.result = result_bytes(answer, second, count);
+        after.result = result_bytes([answer, second, count, 0]);
         Fixed { name: self.name, call, answer, after }
     }
 }
 
-/// A text that is refused with its line; everything but the result is left alone.
-pub fn refused(name: &str, text: &[u8], number: u32, line: u32) -> Fixed {
+/// A text that is refused with number, line and field, as the listing tells them; everything but the result is left alone.
+pub fn refused(name: &str, text: &[u8], [number, line, field]: [u32; 3]) -> Fixed {
     let call = Start::Counting.call(text.to_vec());
     let mut after = call.clone();
-    after.result = result_bytes(number, line, 0);
+    after.result = result_bytes([number, line, 0, field]);
     Fixed { name: String::from(name), call, answer: number, after }
 }
 

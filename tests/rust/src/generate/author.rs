@@ -6,11 +6,11 @@ use super::eeprom_frames::{self, EepromFrames};
 use super::flash_frames::{self, FlashFrames, Places};
 use super::random::Random;
 use crate::model::eeprom;
+use crate::model::fields::STAMP_MOST;
 use crate::model::flash;
 use crate::model::record::{BoardLine, EepromEvent, Event, FlashEvent, LineEvent, Reply};
 use crate::model::replay::start;
 use crate::model::stamp::Board;
-use crate::model::text::STAMP_MOST;
 use std::collections::VecDeque;
 
 /// How a trace is to be, in hundredths.

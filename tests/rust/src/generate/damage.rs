@@ -26,7 +26,7 @@ impl Sheet {
 
 type Damage = fn(&mut Random, &mut Sheet);
 
-pub const DAMAGES: [(&str, Damage); 42] = [
+pub const DAMAGES: [(&str, Damage); 53] = [
     ("two tabs", |random, sheet| at_tab(random, sheet, b"\t\t")),
     ("no tab", |random, sheet| at_tab(random, sheet, b"")),
     ("a blank for a tab", |random, sheet| at_tab(random, sheet, b" ")),
@@ -59,6 +59,17 @@ pub const DAMAGES: [(&str, Damage); 42] = [
     ("extra field", |random, sheet| any_line(random, sheet).extend(b"\t00")),
     ("tab at the end", |random, sheet| any_line(random, sheet).push(b'\t')),
     ("missing field", drop_field),
+    ("a field twice", double_field),
+    ("fields exchanged", exchange_fields),
+    ("a byte changed", change_byte),
+    ("a byte lost", lose_byte),
+    ("a byte twice", double_byte),
+    ("letters for digits", |random, sheet| mistype(random, sheet, &[(b'0', b'O'), (b'1', b'l'), (b'5', b'S'), (b'8', b'B')])),
+    ("digits for letters", |random, sheet| mistype(random, sheet, &[(b'o', b'0'), (b'l', b'1'), (b's', b'5'), (b'b', b'6')])),
+    ("LF lost", |random, sheet| join_lines(random, sheet, b"")),
+    ("a tab for LF", |random, sheet| join_lines(random, sheet, b"\t")),
+    ("LF for a tab", |random, sheet| at_tab(random, sheet, b"\n")),
+    ("cut off in a line", cut_off),
     ("empty line", |random, sheet| insert(random, sheet, &[""])),
     ("empty last line", |_, sheet| sheet.lines.push(Vec::new())),
     ("missing last LF", |_, sheet| sheet.last_lf = false),
@@ -151,6 +162,81 @@ fn drop_field(random: &mut Random, sheet: &mut Sheet) {
     let mut fields = fields_of(line);
     fields.remove(random.below(fields.len()));
     *line = fields.join(&b'\t');
+}
+
+fn double_field(random: &mut Random, sheet: &mut Sheet) {
+    let line = any_line(random, sheet);
+    let mut fields = fields_of(line);
+    let place = random.below(fields.len());
+    fields.insert(place, fields[place].clone());
+    *line = fields.join(&b'\t');
+}
+
+fn exchange_fields(random: &mut Random, sheet: &mut Sheet) {
+    let line = any_line(random, sheet);
+    let mut fields = fields_of(line);
+    let one = random.below(fields.len());
+    let other = random.below(fields.len());
+    fields.swap(one, other);
+    *line = fields.join(&b'\t');
+}
+
+/// A byte of a line, where the line has one.
+fn any_byte<'a>(random: &mut Random, sheet: &'a mut Sheet) -> Option<(&'a mut Vec<u8>, usize)> {
+    let line = any_line(random, sheet);
+    if line.is_empty() {
+        return None;
+    }
+    let place = random.below(line.len());
+    Some((line, place))
+}
+
+fn change_byte(random: &mut Random, sheet: &mut Sheet) {
+    let bit = 1 << random.below(8);
+    if let Some((line, place)) = any_byte(random, sheet) {
+        line[place] ^= bit;
+    }
+}
+
+fn lose_byte(random: &mut Random, sheet: &mut Sheet) {
+    if let Some((line, place)) = any_byte(random, sheet) {
+        line.remove(place);
+    }
+}
+
+fn double_byte(random: &mut Random, sheet: &mut Sheet) {
+    if let Some((line, place)) = any_byte(random, sheet) {
+        line.insert(place, line[place]);
+    }
+}
+
+/// One byte of a line as someone may type it from paper.
+fn mistype(random: &mut Random, sheet: &mut Sheet, pairs: &[(u8, u8)]) {
+    let line = any_line(random, sheet);
+    let typed = |byte: u8| pairs.iter().find(|pair| pair.0 == byte).map(|pair| pair.1);
+    let places: Vec<usize> = (0..line.len()).filter(|&place| typed(line[place]).is_some()).collect();
+    if !places.is_empty() {
+        let place = random.pick(&places);
+        line[place] = typed(line[place]).unwrap_or(line[place]);
+    }
+}
+
+/// Two lines as one, with this between them.
+fn join_lines(random: &mut Random, sheet: &mut Sheet, between: &[u8]) {
+    if sheet.lines.len() > 1 {
+        let place = random.below(sheet.lines.len() - 1);
+        let after = sheet.lines.remove(place + 1);
+        sheet.lines[place].extend([between, &after].concat());
+    }
+}
+
+/// The text ends inside a line.
+fn cut_off(random: &mut Random, sheet: &mut Sheet) {
+    let count = random.below(sheet.lines.len()) + 1;
+    sheet.lines.truncate(count);
+    let last = &mut sheet.lines[count - 1];
+    last.truncate(random.below(last.len() + 1));
+    sheet.last_lf = false;
 }
 
 fn insert_byte(random: &mut Random, sheet: &mut Sheet, byte: u8) {

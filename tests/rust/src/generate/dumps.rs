@@ -81,7 +81,7 @@ fn change_length(random: &mut Random, call: &mut Call) {
     for (number, buffer) in (0..).zip(buffers) {
         if number == which {
             let right = buffer.len();
-            let length = random.pick(&[0, 1, right.saturating_sub(1), right + 1, right * 2, far, 12, 32_768, 40_000]);
+            let length = random.pick(&[0, 1, right.saturating_sub(1), right + 1, right * 2, far, 12, 16, 32_768, 40_000]);
             buffer.resize(length, 0);
         }
     }

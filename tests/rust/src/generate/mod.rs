@@ -11,4 +11,5 @@ pub mod prepared;
 pub mod random;
 pub mod reorder;
 pub mod samples;
+pub mod spoilt;
 pub mod topics;

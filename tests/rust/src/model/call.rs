@@ -3,10 +3,10 @@
 use super::kept::{Kept, KEPT};
 use super::replay::replay;
 use super::stamp::Orders;
-use super::text::read;
+use super::text::{read, Refusal};
 
 pub const REPLIES: usize = 40_000;
-pub const RESULT: usize = 12;
+pub const RESULT: usize = 16;
 
 #[derive(Clone, Debug, PartialEq, Eq)]
 pub struct Call {
@@ -32,16 +32,16 @@ impl Call {
     /// Answers, and leaves each buffer as the call must.
     pub fn run(&mut self, orders: Orders) -> u32 {
         if self.has_wrong_buffer() {
-            return self.refuse(1, 0);
+            return self.refuse(Refusal { number: 1, line: 0, field: 0 });
         }
         let trace = match read(&self.text) {
             Ok(trace) => trace,
-            Err(refusal) => return self.refuse(refusal.number, refusal.line),
+            Err(refusal) => return self.refuse(refusal),
         };
         let flash = Kept { value: self.flash.clone(), mask: self.flash_mask.clone() };
         let eeprom = Kept { value: self.eeprom.clone(), mask: self.eeprom_mask.clone() };
         let ending = replay(&trace, flash, eeprom, orders);
-        self.write_result(ending.answer, ending.stamp, ending.count());
+        self.write_result([ending.answer, ending.stamp, ending.count(), 0]);
         self.flash = ending.board.flash.kept.value;
         self.flash_mask = ending.board.flash.kept.mask;
         self.eeprom = ending.board.eeprom.kept.value;
@@ -62,20 +62,21 @@ impl Call {
             || has_bit_in_both(&self.eeprom, &self.eeprom_mask)
     }
 
-    fn refuse(&mut self, number: u32, line: u32) -> u32 {
-        self.write_result(number, line, 0);
-        number
+    fn refuse(&mut self, refusal: Refusal) -> u32 {
+        self.write_result([refusal.number, refusal.line, 0, refusal.field]);
+        refusal.number
     }
 
-    fn write_result(&mut self, answer: u32, second: u32, count: u32) {
+    fn write_result(&mut self, numbers: [u32; 4]) {
         if self.result.len() == RESULT {
-            self.result = result_bytes(answer, second, count);
+            self.result = result_bytes(numbers);
         }
     }
 }
 
-pub fn result_bytes(answer: u32, second: u32, count: u32) -> Vec<u8> {
-    [answer, second, count].iter().flat_map(|number| number.to_le_bytes()).collect()
+/// The result: answer, line or stamp, count, field.
+pub fn result_bytes(numbers: [u32; 4]) -> Vec<u8> {
+    numbers.iter().flat_map(|number| number.to_le_bytes()).collect()
 }
 
 fn has_bit_in_both(image: &[u8], mask: &[u8]) -> bool {

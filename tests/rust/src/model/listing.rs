@@ -1,4 +1,4 @@
-//! What program `replay` prints ("One listing in full").
+//! What program `replay` prints ("One listing in full"; the field of a refused line is request 2/12's).
 
 use super::call::{Call, REPLIES, RESULT};
 use super::kept::Kept;
@@ -29,7 +29,7 @@ pub fn listing(files: &Files) -> String {
     match answer {
         0 => format!("{}settled\t{}\n", played_lines(&call), number_at(&call.result, 8)),
         6..=8 => format!("{}stop\t{}\t{}\n", played_lines(&call), answer, second),
-        _ => format!("refused\t{}\t{}\n", answer, second),
+        _ => format!("refused\t{}\t{}\t{}\n", answer, second, number_at(&call.result, 12)),
     }
 }
 

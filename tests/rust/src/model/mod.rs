@@ -1,8 +1,10 @@
-//! The replay as plain Rust, written from document 01 and request 3/12 alone and without thrift: every order of a stamp starts
-//! from a fresh copy of a chip with its image, and everything is compared. Nothing here is shared with the proved code.
+//! The replay as plain Rust, written from document 01 and requests 2/12 and 3/12 alone and without thrift: every order of a
+//! stamp starts from a fresh copy of a chip with its image, and everything is compared. Nothing here is shared with the proved
+//! code.
 
 pub mod call;
 pub mod eeprom;
+pub mod fields;
 pub mod flash;
 pub mod kept;
 pub mod lines;

@@ -9,12 +9,15 @@ use super::replay::{replay, stamps, start, Ending};
 use super::stamp::{judge, Orders, Verdict};
 use super::text::{read, Refusal, TEXT_MOST};
 use crate::fixed;
+use crate::generate::author::event_fields;
 use crate::generate::cut_pages::cut_pages;
+use crate::generate::damage::DAMAGES;
 use crate::generate::kinds::{self, Kind};
 use crate::generate::prepared::prepared;
 use crate::generate::random::Random;
 use crate::generate::reorder::reorder;
 use crate::generate::samples;
+use crate::generate::spoilt;
 
 fn answered(call: &Call, orders: Orders) -> (u32, Call) {
     let mut after = call.clone();
@@ -55,15 +58,17 @@ fn listing_in_full() {
 
 #[test]
 fn listings_of_each_ending() {
-    assert_eq!(listed(None), "refused 3 1\n");
+    assert_eq!(listed(None), "refused 3 1 1\n");
     assert_eq!(listed(Some("board 00 1 0\n")), "line stamp reply match\nsettled 0\n");
-    assert_eq!(listed(Some("board 00 1 0\n5 L on\n4 L on\n")), "refused 4 3\n");
+    assert_eq!(listed(Some("board 00 1 0\n5 L on\n4 L on\n")), "refused 4 3 0\n");
+    assert_eq!(listed(Some("board 00 1 0\n5 F des\n")), "refused 5 2 0\n");
+    assert_eq!(listed(Some("board 00 1 0\n5 F sel\n6 F x O5 ff\n")), "refused 3 3 4\n");
     let stop = "board 00 1 0\n5 E end\n7 L on\n7 L on\n7 L on\n";
     assert_eq!(listed(Some(stop)), "line stamp reply match\n2 5 idle .\nstop 6 7\n");
     let short = Files { trace: None, flash: Some(vec![0; 5]), eeprom: None };
-    assert_eq!(listing(&short), "refused\t1\t0\n");
+    assert_eq!(listing(&short), "refused\t1\t0\t0\n");
     let long = Files { trace: Some(vec![b'x'; TEXT_MOST + 1]), flash: None, eeprom: None };
-    assert_eq!(listing(&long), "refused\t2\t0\n");
+    assert_eq!(listing(&long), "refused\t2\t0\t0\n");
 }
 
 #[test]
@@ -163,6 +168,29 @@ fn generated_writes_are_cut() {
     let mut random = Random::seeded(25);
     let cut = (0..100).filter(|&number| cuts_sure_bytes(&cut_pages(&mut random, number))).count();
     assert!(cut > 50, "{}", cut);
+}
+
+/// Each field is the first bad one often enough for a wrong number to be seen (request 2/12).
+#[test]
+fn generated_damage_reaches_every_field() {
+    let mut random = Random::seeded(26);
+    let mut seen = [0; 7];
+    for number in 0..12 * DAMAGES.len() {
+        if let Err(Refusal { number: 3, field, .. }) = read(&kinds::damaged(&mut random, number).text) {
+            seen[field as usize] += 1;
+        }
+    }
+    assert!(seen[1..].iter().all(|&count| count > 10), "{:?}", seen);
+}
+
+#[test]
+fn the_trace_that_is_spoilt_has_every_kind_of_line() {
+    let trace = read(&spoilt::whole()).unwrap();
+    let word = |record: &Record| event_fields(record.event).split('\t').take(2).collect::<Vec<_>>().join(" ");
+    let mut words: Vec<String> = trace.records.iter().map(word).collect();
+    words.sort();
+    words.dedup();
+    assert_eq!(words.len(), 14, "{:?}", words);
 }
 
 fn replayed(text: &[u8]) -> Ending {
@@ -275,6 +303,6 @@ fn pages_roll() {
 #[test]
 fn the_longest_stamp_and_one_more() {
     assert!(read(b"board\t00\t1\t0\n4294967295\tL\ton\n").is_ok());
-    let refusal = Refusal { number: 3, line: 2 };
+    let refusal = Refusal { number: 3, line: 2, field: 1 };
     assert_eq!(read(b"board\t00\t1\t0\n4294967296\tL\ton\n"), Err(refusal));
 }

@@ -1,10 +1,9 @@
 //! Reading a trace ("The trace"), with refusals 2 to 5.
 
+use super::fields::{acknowledge, bad_board_field, bad_record_field, fields, hex, stamp, status, watched_sector, wired_address};
 use super::record::{BoardLine, EepromEvent, Event, FlashEvent, LineEvent, Record};
 
 pub const TEXT_MOST: usize = 65_536;
-pub const STAMP_MOST: u64 = 4_294_967_295;
-const STATUS_BITS: u8 = 0b1000_1100;
 
 #[derive(Clone, Debug, PartialEq, Eq)]
 pub struct Trace {
@@ -12,21 +11,23 @@ pub struct Trace {
     pub records: Vec<Record>,
 }
 
-/// A refusal of the text: its number, and the line (0 where none is to blame).
+/// A refusal: its number, the line and of a line of wrong form the first bad field (each 0 where none is to blame).
 #[derive(Clone, Copy, Debug, PartialEq, Eq)]
 pub struct Refusal {
     pub number: u32,
     pub line: u32,
+    pub field: u32,
 }
 
 pub fn read(text: &[u8]) -> Result<Trace, Refusal> {
     if text.len() > TEXT_MOST {
-        return Err(Refusal { number: 2, line: 0 });
+        return Err(Refusal { number: 2, line: 0, field: 0 });
     }
     let lines = split_lines(text);
-    let board = match lines.first().copied().flatten().and_then(board_line) {
+    let first = lines.first().copied().unwrap_or(NO_TEXT);
+    let board = match first.read_by(board_line) {
         Some(board) => board,
-        None => return Err(Refusal { number: 3, line: 1 }),
+        None => return Err(Refusal { number: 3, line: 1, field: bad_board_field(first.content) }),
     };
     let mut reading = Reading::at_start();
     for (above, line) in lines.iter().enumerate().skip(1) {
@@ -35,12 +36,33 @@ pub fn read(text: &[u8]) -> Result<Trace, Refusal> {
     Ok(Trace { board, records: reading.records })
 }
 
-/// The lines of a text without their LF; a last line that lacks its LF is None, since it has no right form.
-fn split_lines(text: &[u8]) -> Vec<Option<&[u8]>> {
-    let mut lines: Vec<Option<&[u8]>> = text.split(|&byte| byte == b'\n').map(Some).collect();
-    let after_last_lf = lines.pop().flatten().unwrap_or(&[]);
-    if !after_last_lf.is_empty() {
-        lines.push(None);
+/// A line: what stands before its LF, or before the text's end.
+#[derive(Clone, Copy)]
+struct Line<'a> {
+    content: &'a [u8],
+    has_lf: bool,
+}
+
+/// Line 1 where there is none: refused in its first field.
+const NO_TEXT: Line = Line { content: &[], has_lf: false };
+
+impl Line<'_> {
+    /// A line that lacks its LF has no right form.
+    fn read_by<T>(self, form: fn(&[u8]) -> Option<T>) -> Option<T> {
+        if self.has_lf {
+            form(self.content)
+        } else {
+            None
+        }
+    }
+}
+
+fn split_lines(text: &[u8]) -> Vec<Line<'_>> {
+    let mut lines: Vec<Line> = text.split(|&byte| byte == b'\n').map(|content| Line { content, has_lf: true }).collect();
+    // What stands behind the last LF is a line only where something does.
+    let rest = lines.pop().map_or(&text[..0], |last| last.content);
+    if !rest.is_empty() {
+        lines.push(Line { content: rest, has_lf: false });
     }
     lines
 }
@@ -56,37 +78,27 @@ impl Reading {
     }
 
     /// Refusals 3, 4 and 5, in this order within a line.
-    fn take(&mut self, line: u32, content: Option<&[u8]>) -> Result<(), Refusal> {
-        let (stamp, event) = match content.and_then(record_line) {
+    fn take(&mut self, number: u32, line: Line) -> Result<(), Refusal> {
+        let (stamp, event) = match line.read_by(record_line) {
             Some(found) => found,
-            None => return Err(Refusal { number: 3, line }),
+            None => return Err(Refusal { number: 3, line: number, field: bad_record_field(line.content) }),
         };
         let before = self.records.last().map_or(0, |record| record.stamp);
         if stamp < before {
-            return Err(Refusal { number: 4, line });
+            return Err(Refusal { number: 4, line: number, field: 0 });
         }
         if !self.order.allows(event) {
-            return Err(Refusal { number: 5, line });
+            return Err(Refusal { number: 5, line: number, field: 0 });
         }
-        self.records.push(Record { line, stamp, event });
+        self.records.push(Record { line: number, stamp, event });
         Ok(())
     }
 }
 
-fn fields(line: &[u8]) -> Vec<&[u8]> {
-    line.split(|&byte| byte == b'\t').collect()
-}
-
 fn board_line(line: &[u8]) -> Option<BoardLine> {
     match fields(line).as_slice() {
-        [b"board", status, watched, address] => {
-            let status = hex(status)?;
-            let watched = decimal(watched, 4)? as u8;
-            let address = decimal(address, 7)? as u8;
-            if status & !STATUS_BITS != 0 || watched == 0 {
-                return None;
-            }
-            Some(BoardLine { status, watched, address })
+        [b"board", bits, sector, address] => {
+            Some(BoardLine { status: status(bits)?, watched: watched_sector(sector)?, address: wired_address(address)? })
         }
         _ => None,
     }
@@ -95,8 +107,8 @@ fn board_line(line: &[u8]) -> Option<BoardLine> {
 fn record_line(line: &[u8]) -> Option<(u32, Event)> {
     let fields = fields(line);
     match fields.as_slice() {
-        [stamp, channel, event @ ..] => {
-            let stamp = decimal(stamp, STAMP_MOST)? as u32;
+        [digits, channel, event @ ..] => {
+            let stamp = stamp(digits)?;
             let event = match *channel {
                 b"F" => Event::F(flash_event(event)?),
                 b"E" => Event::E(eeprom_event(event)?),
@@ -125,7 +137,7 @@ fn eeprom_event(fields: &[&[u8]]) -> Option<EepromEvent> {
         [b"sta"] => Some(EepromEvent::Sta),
         [b"b", byte, ack] => {
             let byte = hex(byte)?;
-            let not_acknowledged = decimal(ack, 1)? == 1;
+            let not_acknowledged = acknowledge(ack)? == 1;
             Some(EepromEvent::B { byte, not_acknowledged })
         }
         [b"cut"] => Some(EepromEvent::Cut),
@@ -143,38 +155,6 @@ fn line_event(fields: &[&[u8]]) -> Option<LineEvent> {
         [b"free"] => Some(LineEvent::Free),
         _ => None,
     }
-}
-
-fn hex(field: &[u8]) -> Option<u8> {
-    match field {
-        [high, low] => Some(hex_digit(*high)? * 16 + hex_digit(*low)?),
-        _ => None,
-    }
-}
-
-fn hex_digit(digit: u8) -> Option<u8> {
-    match digit {
-        b'0'..=b'9' => Some(digit - b'0'),
-        b'a'..=b'f' => Some(digit - b'a' + 10),
-        _ => None,
-    }
-}
-
-fn decimal(field: &[u8], most: u64) -> Option<u64> {
-    if field.is_empty() || (field.len() > 1 && field[0] == b'0') {
-        return None;
-    }
-    let mut value: u64 = 0;
-    for &digit in field {
-        if !digit.is_ascii_digit() {
-            return None;
-        }
-        value = value * 10 + u64::from(digit - b'0');
-        if value > most {
-            return None;
-        }
-    }
-    Some(value)
 }
 
 /// What refusal 5 asks: the order of each bus by itself, whatever the supply does.

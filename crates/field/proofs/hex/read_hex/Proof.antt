@@ -1,21 +1,22 @@
-use native.Mathlib.Omega.{arith}
-use mathlib.Core.Path.{sym, _∙_}
-use lib.ListN.{getD}
-use denote.Ref.{now}
-use Rattle.field.proofs.HexLaws.{hex-short, hex-high, hex-low, hex-both, nibble-small}
 use Prim.Native.Nat.{_+_}
+use Rattle.field.proofs.HexLaws.{hex-short, hex-high, hex-low, hex-both, nibble-small}
+use Rattle.field.proofs.Reading.{none, got-is}
+use denote.Ref.{now}
+use lib.ListN.{getD}
+use mathlib.Core.Path.{sym, _∙_}
+use native.Mathlib.Omega.{arith}
 use borrow.Author.Needs.{needs}
 use Rattle.field.proofs.hex.read_hex.Statement.{statement}
 use Rattle.field.proofs.hex.read_hex.Tie as tie
 
 returns : tie.Need-returns
-returns c = hex-short _ _ (omega arith)
+returns c = none (hex-short _ _ (omega arith))
 
 sub-if2 : tie.Need-sub-if2
 sub-if2 c = search needs
 
 returns-2 : tie.Need-returns-2
-returns-2 c = hex-short _ _ (omega arith)
+returns-2 c = none (hex-short _ _ (omega arith))
 
 shared-slice-read-nibble-of : tie.Need-shared-slice-read-nibble-of
 shared-slice-read-nibble-of c = search needs
@@ -30,7 +31,7 @@ enum-told : tie.Need-enum-told
 enum-told c = search needs
 
 returns-3 : tie.Need-returns-3
-returns-3 c = hex-high _ _ (sym (c .before .before .nibble-of .ensures) ∙ c .enum-told .given .1)
+returns-3 c = none (hex-high _ _ (sym (c .before .before .nibble-of .ensures) ∙ c .enum-told .given .1))
 
 add-nibble-of : tie.Need-add-nibble-of
 add-nibble-of c = search needs
@@ -48,24 +49,24 @@ enum-told-2 : tie.Need-enum-told-2
 enum-told-2 c = search needs
 
 returns-4 : tie.Need-returns-4
-returns-4 c = hex-low _ _ (sym (c .before .before .nibble-of2 .ensures) ∙ c .enum-told2 .given .1)
+returns-4 c = none (hex-low _ _ (sym (c .before .before .nibble-of2 .ensures) ∙ c .enum-told2 .given .1))
 
-mul-t11 : tie.Need-mul-t11
-mul-t11 c = let a = c .before .before .before .before .before .before .before .before .before .before .before .before .before .args in
+mul-t14 : tie.Need-mul-t14
+mul-t14 c = let a = c .before .before .before .before .before .before .before .before .before .before .before .before .before .args in
     let h = nibble-small (getD (now (a .text)) (a .c .at) 0) _ (sym (c .before .before .before .before .before .before .before .before .nibble-of .ensures) ∙ c .before .before .before .before .before .before .high .given .1) in
     omega arith
 
-add-t14 : tie.Need-add-t14
-add-t14 c = let a = c .before .before .before .before .before .before .before .before .before .before .before .before .before .args in
+add-t17 : tie.Need-add-t17
+add-t17 c = let a = c .before .before .before .before .before .before .before .before .before .before .before .before .before .args in
     let h = nibble-small (getD (now (a .text)) (a .c .at) 0) _ (sym (c .before .before .before .before .before .before .before .before .nibble-of .ensures) ∙ c .before .before .before .before .before .before .high .given .1) in
     let l = nibble-small (getD (now (a .text)) (a .c .at + 1) 0) _ (sym (c .before .before .before .nibble-of2 .ensures) ∙ c .before .low .given .1) in
     omega arith
 
-add-t8 : tie.Need-add-t8
-add-t8 c = search needs
+add-t11 : tie.Need-add-t11
+add-t11 c = search needs
 
 returns-5 : tie.Need-returns-5
-returns-5 c = hex-both _ _ _ _ (omega arith) (sym (c .before .before .before .before .before .before .before .before .nibble-of .ensures) ∙ c .before .before .before .before .before .before .high .given .1) (sym (c .before .before .before .nibble-of2 .ensures) ∙ c .before .low .given .1)
+returns-5 c = got-is (hex-both _ _ _ _ (omega arith) (sym (c .before .before .before .before .before .before .before .before .nibble-of .ensures) ∙ c .before .before .before .before .before .before .high .given .1) (sym (c .before .before .before .nibble-of2 .ensures) ∙ c .before .low .given .1))
 
 pub read-hex-spec : {M : Type 1} → statement M
 read-hex-spec =
@@ -85,7 +86,7 @@ read-hex-spec =
     enum-known-low
     enum-told-2
     returns-4
-    mul-t11
-    add-t14
-    add-t8
+    mul-t14
+    add-t17
+    add-t11
     returns-5)

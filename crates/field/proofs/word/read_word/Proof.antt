@@ -1,29 +1,29 @@
-use Prim.Native.Nat.{ℕ, _+_, _≤_, _<_, _-_}
-use native.Mathlib.Omega.{arith}
-use mathlib.Core.Path.{_≡_}
-use borrow.Author.Count.{below-more}
-use lib.ListN.{length, getD}
 use Rattle.field.proofs.WordLaws.{word-short, word-miss, word-here, word-empty}
+use lib.ListN.{length, getD}
+use borrow.Author.Count.{below-more}
+use mathlib.Core.Path.{_≡_}
+use native.Mathlib.Omega.{arith}
+use Prim.Native.Nat.{ℕ, _+_, _≤_, _<_, _-_}
 use Rattle.field.proofs.word.read_word.Statement.{statement}
 use Rattle.field.proofs.word.read_word.Tie as tie
 
 abbrev Inv-loop : tie.InvT-loop
-Inv-loop text word at k₀ k = (k ≤ length word) × ((i : ℕ) → i < k → getD text (at + i) 0 ≡ getD word i 0)
+Inv-loop text word number at bad k₀ k = (k ≤ length word) × ((i : ℕ) → i < k → getD text (at + i) 0 ≡ getD word i 0)
 
 abbrev μ-loop : tie.MeasureT-loop
-μ-loop text word at k₀ k = length word - k
+μ-loop text word number at bad k₀ k = length word - k
 
 returns : tie.Need-returns Inv-loop μ-loop
-returns c = word-empty _ _ _ (c .if1 .taken)
+returns c = word-empty _ _ _ _ (c .if1 .taken)
 
 returns-2 : tie.Need-returns-2 Inv-loop μ-loop
-returns-2 c = word-short _ _ _ (omega arith) (omega arith)
+returns-2 c = word-short _ _ _ _ (omega arith) (omega arith)
 
 sub-if3 : tie.Need-sub-if3 Inv-loop μ-loop
 sub-if3 c = omega arith
 
 returns-3 : tie.Need-returns-3 Inv-loop μ-loop
-returns-3 c = word-short _ _ _ (omega arith) (omega arith)
+returns-3 c = word-short _ _ _ _ (omega arith) (omega arith)
 
 loop-holds : tie.Need-loop-holds Inv-loop μ-loop
 loop-holds c = (omega arith, λ i h. absurd (omega arith))
@@ -38,7 +38,7 @@ shared-slice-read-if4-2 : tie.Need-shared-slice-read-if4-2 Inv-loop μ-loop
 shared-slice-read-if4-2 c = omega arith
 
 returns-4 : tie.Need-returns-4 Inv-loop μ-loop
-returns-4 c = word-miss _ _ _ _ (c .before .before .before .loop-test .taken) (c .if4 .taken)
+returns-4 c = word-miss _ _ _ _ _ (c .before .before .before .loop-test .taken) (c .if4 .taken)
 
 add-k : tie.Need-add-k Inv-loop μ-loop
 add-k c = omega arith
@@ -49,11 +49,11 @@ loop-less c = omega arith
 loop-again : tie.Need-loop-again Inv-loop μ-loop
 loop-again c = (omega arith, below-more _ _ (c .before .before .before .before .loop .inv .1) (c .if4 .left))
 
-add-t9 : tie.Need-add-t9 Inv-loop μ-loop
-add-t9 c = omega arith
+add-t12 : tie.Need-add-t12 Inv-loop μ-loop
+add-t12 c = omega arith
 
 returns-5 : tie.Need-returns-5 Inv-loop μ-loop
-returns-5 c = word-here _ _ _ (omega arith) (λ i h. c .before .loop .inv .1 i (omega arith))
+returns-5 c = word-here _ _ _ _ (omega arith) (λ i h. c .before .loop .inv .1 i (omega arith))
 
 pub read-word-spec : {M : Type 1} → statement M
 read-word-spec =
@@ -73,5 +73,5 @@ read-word-spec =
     add-k
     loop-less
     loop-again
-    add-t9
+    add-t12
     returns-5)

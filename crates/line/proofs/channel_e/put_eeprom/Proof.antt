@@ -1,5 +1,5 @@
 use Rattle.line.proofs.EepromLaws.{put-data}
-use Rattle.line.proofs.After.{put-as}
+use Rattle.line.proofs.Put.{put-as}
 use Rattle.line.specs.ChannelE.{spelledEeprom}
 use borrow.Author.Needs.{needs}
 use Rattle.line.proofs.channel_e.put_eeprom.Statement.{statement}

@@ -1,5 +1,5 @@
 use Rattle.line.proofs.FlashLaws.{put-pair}
-use Rattle.line.proofs.After.{put-as}
+use Rattle.line.proofs.Put.{put-as}
 use Rattle.line.specs.ChannelF.{spelledFlash}
 use borrow.Author.Needs.{needs}
 use Rattle.line.proofs.channel_f.put_flash.Statement.{statement}

@@ -1,5 +1,5 @@
 use Rattle.line.proofs.RecordLaws.{put-event-flash, put-event-eeprom, put-event-line}
-use Rattle.line.proofs.After.{put-as}
+use Rattle.line.proofs.Put.{put-as}
 use Rattle.line.specs.Records.{spelledEvent}
 use borrow.Author.Needs.{needs}
 use Rattle.line.proofs.records.put_event.Statement.{statement}

@@ -1,4 +1,4 @@
-use Rattle.line.proofs.After.{put-as}
+use Rattle.line.proofs.Put.{put-as}
 use Rattle.listing.specs.Lines.{matchText}
 use borrow.Author.Needs.{needs}
 use Rattle.listing.proofs.lines.put_match.Statement.{statement}

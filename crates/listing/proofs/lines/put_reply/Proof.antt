@@ -1,4 +1,4 @@
-use Rattle.line.proofs.After.{put-as}
+use Rattle.line.proofs.Put.{put-as}
 use mathlib.Core.Path.{sym}
 use Rattle.field.proofs.SpellingLaws.{put-none}
 use Rattle.listing.specs.Lines.{replyText}

@@ -30,8 +30,17 @@ slice-aggregate-put-word-3 c = search needs
 put-word-requires-3 : tie.Need-put-word-requires-3
 put-word-requires-3 c κs = search needs
 
+put-decimal-requires-3 : tie.Need-put-decimal-requires-3
+put-decimal-requires-3 c κs = search needs
+
+slice-aggregate-put-word-4 : tie.Need-slice-aggregate-put-word-4
+slice-aggregate-put-word-4 c = search needs
+
+put-word-requires-4 : tie.Need-put-word-requires-4
+put-word-requires-4 c κs = search needs
+
 returns : tie.Need-returns
-returns c = put-refused _ _ (c .before .before .before .before .before .before .before .before .no-bytes .ensures) (c .before .before .before .before .before .before .put-word .ensures) (c .before .before .before .before .before .put-decimal .ensures) (c .before .before .before .put-word2 .ensures) (c .before .before .put-decimal2 .ensures) (c .put-word3 .ensures)
+returns c = put-refused _ _ _ (c .before .before .before .before .before .before .before .before .before .before .before .no-bytes .ensures) (c .before .before .before .before .before .before .before .before .before .put-word .ensures) (c .before .before .before .before .before .before .before .before .put-decimal .ensures) (c .before .before .before .before .before .before .put-word2 .ensures) (c .before .before .before .before .before .put-decimal2 .ensures) (c .before .before .before .put-word3 .ensures) (c .before .before .put-decimal3 .ensures) (c .put-word4 .ensures)
 
 pub refused-line-spec : {M : Type 1} → statement M
 refused-line-spec =
@@ -46,4 +55,7 @@ refused-line-spec =
     put-decimal-requires-2
     slice-aggregate-put-word-3
     put-word-requires-3
+    put-decimal-requires-3
+    slice-aggregate-put-word-4
+    put-word-requires-4
     returns)
