@@ -15,9 +15,15 @@ extern "C" {
 
 /* Lengths, in bytes. */
 #define HAZELCROOK_IMAGE 32768   /* an image, and its mask */
+#define HAZELCROOK_TIMES 3200    /* an entry for each page of both chips */
+#define HAZELCROOK_TIME 5        /* such an entry */
 #define HAZELCROOK_REPLIES 40000 /* four for each record */
 #define HAZELCROOK_RESULT 16
 #define HAZELCROOK_TEXT 65536 /* the longest text */
+
+/* Pages. */
+#define HAZELCROOK_FLASH_PAGES 128  /* of the watched sector, 256 bytes each */
+#define HAZELCROOK_EEPROM_PAGES 512 /* 64 bytes each */
 
 /* Answers. */
 enum {
@@ -30,6 +36,12 @@ enum {
   HAZELCROOK_CROWDED = 6,       /* more than 8 F, 8 E or 2 L records at one stamp */
   HAZELCROOK_ORDERS_DIFFER = 7, /* the trace does not fix the order at that stamp */
   HAZELCROOK_STATUS_LOST = 8    /* the flash's status is lost after that stamp */
+};
+
+/* Marks of a page's time (its first byte; then the stamp). */
+enum {
+  HAZELCROOK_NEVER = 0,
+  HAZELCROOK_WRITTEN = 1
 };
 
 /* Kinds of a reply (its first byte; then value, mask, match). */
@@ -50,6 +62,13 @@ enum {
  * eeprom_mask: a 1 for each doubtful bit, which is 0 in the value. With no
  * dump: all values 00, all masks ff; a dump is sure: masks 00.
  *
+ * times: when each page was last written; what it holds before the call says
+ * nothing. Entry k is the watched sector's page k, entry 128 + k the EEPROM's
+ * page k. An entry is a mark and a stamp of four bytes, low byte first: that
+ * of the record that ended (`end`) or cut (`off`) the last cycle on the page;
+ * all 0 for a page on which none was. A program touches its page even if no
+ * bit changes, an erase every page that it reaches.
+ *
  * result: the answer, the line (answers 3, 4, 5) or the stamp (6, 7, 8), the
  * count of replies that disagree, and the field (answer 3; else 0); four bytes
  * each, low byte first. Fields are what tabs part, up to the line's LF or the
@@ -59,15 +78,16 @@ enum {
  * is not 16 bytes the answer is 1 and nothing is written anywhere.
  *
  * Answers 1 to 5 leave every other buffer as it was. Answer 0 leaves the
- * images and masks after the trace, and the reply of the record on line n at
- * replies[4 * (n - 2)]; the rest of the replies is 0. Answers 6, 7, 8 leave
- * images, masks and replies as they were before that stamp, all other replies
- * 0. */
+ * images, masks and times after the trace, and the reply of the record on line
+ * n at replies[4 * (n - 2)]; the rest of the replies is 0. Answers 6, 7, 8
+ * leave images, masks, times and replies as they stand before that stamp, all
+ * other replies 0. */
 uint32_t hazelcrook_replay(const uint8_t *text, size_t text_len,
                            uint8_t *flash, size_t flash_len,
                            uint8_t *flash_mask, size_t flash_mask_len,
                            uint8_t *eeprom, size_t eeprom_len,
                            uint8_t *eeprom_mask, size_t eeprom_mask_len,
+                           uint8_t *times, size_t times_len,
                            uint8_t *replies, size_t replies_len,
                            uint8_t *result, size_t result_len);
 

@@ -13,7 +13,12 @@ need() {
   have "$command" && return 0
   if have apt-get && [ "$(id -u)" = 0 ]; then
     say "installing $* (for $command)"
-    { apt-get update && apt-get install -y --no-install-recommends "$@"; } >/dev/null 2>&1 || true
+    # Another program may hold the packages' lock, and a mirror may fail once: wait, and try again.
+    for _ in 1 2 3; do
+      apt-get update >/dev/null 2>&1
+      apt-get install -y --no-install-recommends -o DPkg::Lock::Timeout=120 "$@" >/dev/null 2>&1 && break
+      sleep 5
+    done
   fi
   have "$command" || { say "missing: $command (Debian: apt-get install $*)"; return 1; }
 }
@@ -69,7 +74,8 @@ quietly() {
 }
 
 LIBRARY=target/staticlib/libdesk.a
-PROGRAM=target/bin/replay
+# Each program is there under its own name.
+PROGRAMS=target/bin
 
 # The proved library. It is proved and built anew unless it is younger than every file of the crates.
 build_library() {
@@ -79,10 +85,27 @@ build_library() {
   quietly target/tests/library.log rt staticlib desk
 }
 
-# The program, proved and built; rt itself knows what has changed.
+# build_program NAME: a program, proved and built; rt itself knows what has changed.
 build_program() {
   need_rt || return 1
-  quietly target/tests/program.log rt check replay
+  quietly "target/tests/$1.log" rt check "$1"
+}
+
+# run_program NAME EXAMPLE [FOLDER]: what tools/NAME does, from any folder: the program on the files of a folder, or of
+# examples/EXAMPLE. It is proved and built first, where that has not been done.
+run_program() {
+  local top name=$1 folder
+  [ $# -le 3 ] || { say "usage: tools/$name [FOLDER]"; return 2; }
+  top=$(cd "$(dirname "${BASH_SOURCE[0]}")/.." && pwd) || return 1
+  folder=${3:-$top/examples/$2}
+  [ -d "$folder" ] || { say "no such folder: $folder"; return 2; }
+  choose_runner || return 1
+  (
+    cd "$top" || exit 1
+    [ -e "$PROGRAMS/$name" ] || say "proving and building program $name; the first time this takes some minutes"
+    build_program "$name"
+  ) || return 1
+  cd "$folder" && exec "${RUN[@]}" "$top/$PROGRAMS/$name"
 }
 
 # cargo_release PACKAGE WORD..: cargo on a package of tests/, for release, its files under target/.

@@ -27,7 +27,12 @@ enum group { TIED, UNTIED, GROWTH, SPOILT, GROUPS };
 enum { LEAST_TURNS = 9, MOST_TURNS = 100000 };
 
 static const char *const GROUP_NAMES[GROUPS] = {"tied", "untied", "growth", "spoilt"};
+/* Where Rust builds no code that can be linked with the library, plain Rust is left out, and nothing is timed. */
+#ifdef WITHOUT_PLAIN
+static replay_call *const REPLAYS[WAYS] = {hazelcrook_replay, NULL, pass_replay};
+#else
 static replay_call *const REPLAYS[WAYS] = {hazelcrook_replay, plain_replay, pass_replay};
+#endif
 static const double BUDGET = 2.0; /* seconds a trace */
 
 /* What is lent to a call beside the text, and what the call answered. */
@@ -36,6 +41,7 @@ struct desk {
     uint8_t flash_mask[HAZELCROOK_IMAGE];
     uint8_t eeprom[HAZELCROOK_IMAGE];
     uint8_t eeprom_mask[HAZELCROOK_IMAGE];
+    uint8_t times[HAZELCROOK_TIMES];
     uint8_t replies[HAZELCROOK_REPLIES];
     uint8_t result[HAZELCROOK_RESULT];
     uint32_t answer;
@@ -114,6 +120,7 @@ static void restore(void)
     memset(desk.flash_mask, 0xff, sizeof desk.flash_mask);
     memset(desk.eeprom, 0x00, sizeof desk.eeprom);
     memset(desk.eeprom_mask, 0xff, sizeof desk.eeprom_mask);
+    memset(desk.times, 0x5a, sizeof desk.times);
     memset(desk.replies, 0x5a, sizeof desk.replies);
     memset(desk.result, 0x5a, sizeof desk.result);
 }
@@ -135,8 +142,8 @@ static double timed(const struct trace *trace, enum way way)
     begin = now();
     desk.answer = REPLAYS[way](trace->text, trace->len, desk.flash, sizeof desk.flash, desk.flash_mask,
                                sizeof desk.flash_mask, desk.eeprom, sizeof desk.eeprom, desk.eeprom_mask,
-                               sizeof desk.eeprom_mask, desk.replies, sizeof desk.replies, desk.result,
-                               sizeof desk.result);
+                               sizeof desk.eeprom_mask, desk.times, sizeof desk.times, desk.replies,
+                               sizeof desk.replies, desk.result, sizeof desk.result);
     return now() - begin;
 }
 
@@ -158,6 +165,8 @@ static const char *difference(const struct desk *one, const struct desk *other)
         return "EEPROM image";
     if (memcmp(one->eeprom_mask, other->eeprom_mask, sizeof one->eeprom_mask) != 0)
         return "EEPROM mask";
+    if (memcmp(one->times, other->times, sizeof one->times) != 0)
+        return "page times";
     if (memcmp(one->replies, other->replies, sizeof one->replies) != 0)
         return "replies";
     return NULL;
@@ -182,13 +191,14 @@ static double first_turn(struct trace *trace)
     double seconds = 0;
     int way;
 
-    for (way = 0; way < WAYS; way++) {
-        seconds += timed(trace, (enum way)way);
-        left[way] = desk;
-    }
+    for (way = 0; way < WAYS; way++)
+        if (REPLAYS[way] != NULL) {
+            seconds += timed(trace, (enum way)way);
+            left[way] = desk;
+        }
     trace->answer = left[LIBRARY].answer;
     for (way = PLAIN; way < WAYS; way++) {
-        const char *differs = wrong_difference((enum way)way);
+        const char *differs = REPLAYS[way] != NULL ? wrong_difference((enum way)way) : NULL;
 
         if (differs != NULL) {
             fprintf(stderr, "bench: %s: %s differs between the library and %s\n", trace->file, differs,
@@ -396,6 +406,8 @@ int main(int argc, char **argv)
 
     if (turns < 0 || turns > MOST_TURNS || argc < 4 || argc % 2 != 0)
         fault("usage", "bench TURNS (tied|untied|growth|spoilt FILE)..");
+    if (turns != 0 && REPLAYS[PLAIN] == NULL)
+        fault("nothing is timed", "built without plain Rust");
     traces = calloc((size_t)count, sizeof *traces);
     if (traces == NULL)
         fault("no memory", "traces");

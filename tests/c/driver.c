@@ -1,10 +1,10 @@
 /*
  * Puts the replay on lent buffers and says what came of it.
  *
- * A request on standard input: the lengths of the seven buffers (text, flash image, flash mask, EEPROM image, EEPROM
- * mask, replies, result), each in four bytes with the low one first, then the bytes of each. The answer on standard
- * output: the call's answer in four bytes, then the six lent buffers, as long as they were. Seven zero lengths, or the
- * end of the input, end the program.
+ * A request on standard input: the lengths of the eight buffers (text, flash image, flash mask, EEPROM image, EEPROM
+ * mask, page times, replies, result), each in four bytes with the low one first, then the bytes of each. The answer on
+ * standard output: the call's answer in four bytes, then the seven lent buffers, as long as they were. Eight zero
+ * lengths, or the end of the input, end the program.
  *
  * Every buffer lies between two pages that nothing may touch (guarded.h): in even cases against the upper one, in odd
  * cases against the lower; what is left of its pages on the other side must come back unchanged. The text may only be
@@ -15,7 +15,7 @@
 #include "guarded.h"
 #include "hazelcrook.h"
 
-enum { BUFFERS = 7 };
+enum { BUFFERS = 8 };
 
 /* 1 where all was read, 0 where the input had ended. */
 static int read_all(void *into, size_t len)
@@ -33,16 +33,11 @@ static void write_all(const void *from, size_t len)
         fail("writing an answer");
 }
 
-static uint32_t number_of(const unsigned char *four)
-{
-    return (uint32_t)four[0] | (uint32_t)four[1] << 8 | (uint32_t)four[2] << 16 | (uint32_t)four[3] << 24;
-}
-
 static uint32_t replay(const struct lent *lent)
 {
     return hazelcrook_replay(lent[0].bytes, lent[0].len, lent[1].bytes, lent[1].len, lent[2].bytes, lent[2].len,
                              lent[3].bytes, lent[3].len, lent[4].bytes, lent[4].len, lent[5].bytes, lent[5].len,
-                             lent[6].bytes, lent[6].len);
+                             lent[6].bytes, lent[6].len, lent[7].bytes, lent[7].len);
 }
 
 static void answer(const struct lent *lent, uint32_t number)

@@ -78,6 +78,12 @@ static inline int beside_untouched(const struct lent *lent)
     return 1;
 }
 
+/* A number in a buffer: four bytes, the low one first. */
+static inline uint32_t number_of(const uint8_t *four)
+{
+    return (uint32_t)four[0] | (uint32_t)four[1] << 8 | (uint32_t)four[2] << 16 | (uint32_t)four[3] << 24;
+}
+
 static inline void take_back(const struct lent *lent)
 {
     if (munmap(lent->map, lent->map_len) != 0)

@@ -2,8 +2,8 @@
  * The replay as one plain pass in C, a yardstick for traces without ties: each line is read once, checked, and played
  * in the order written directly on the lent images, and its reply is put down at once. It holds no stamp together and
  * tries no order, so it can't say 6 or 7: tied records are played as they stand, which is right wherever every order
- * agrees. It undoes nothing: at a bad line it answers 3, 4 or 5, with the result that is due, and leaves images and
- * replies as far as they got. What is timed are readable traces.
+ * agrees. It undoes nothing: at a bad line it answers 3, 4 or 5, with the result that is due, and leaves images, times
+ * and replies as far as they got. What is timed are readable traces.
  */
 #include "replays.h"
 
@@ -12,6 +12,9 @@
 #include "hazelcrook.h"
 
 enum { FLASH_PAGE = 256, EEPROM_PAGE = 64, ADDRESSES = 0x20000, PLACES = 0x8000 };
+
+/* Where the EEPROM's entries begin in the table of page times. */
+enum { EEPROM_TIMES = HAZELCROOK_TIME * HAZELCROOK_FLASH_PAGES };
 
 /* The flash's status. */
 enum { WPEN = 0x80, BP1 = 0x08, BP0 = 0x04, WRITE_ENABLE = 0x02, WRITTEN = WPEN | BP1 | BP0 };
@@ -43,7 +46,7 @@ enum flash_frame { F_IDLE, F_VOID, F_SELECTED, F_OPEN };
 
 /* The page is that of a PROGRAM's frame, then of its cycle: no other PROGRAM is taken up in between. */
 struct flash {
-    uint8_t *values, *masks;
+    uint8_t *values, *masks, *times;
     uint32_t watched;
     uint8_t status;
     enum flash_frame frame;
@@ -60,7 +63,7 @@ enum eeprom_frame { E_IDLE, E_VOID, E_STARTED, E_WRITING, E_READING };
 
 /* The page is that of a write frame, then of its cycle: a frame begun in a cycle writes nothing. */
 struct eeprom {
-    uint8_t *values, *masks;
+    uint8_t *values, *masks, *times;
     uint8_t own; /* the address byte of a write */
     enum eeprom_frame frame;
     int sta_in_cycle;
@@ -316,6 +319,17 @@ static void put_byte(uint8_t *reply, uint8_t value, uint8_t mask, uint8_t record
     put(reply, HAZELCROOK_BYTE, value, mask, match);
 }
 
+/* The time of a page (request 1/12): of the cycle that ends or is cut on it. */
+static void touch(uint8_t *times, uint32_t page, uint32_t stamp)
+{
+    uint8_t *entry = times + HAZELCROOK_TIME * page;
+    int byte;
+
+    entry[0] = HAZELCROOK_WRITTEN;
+    for (byte = 0; byte < 4; byte++)
+        entry[1 + byte] = (uint8_t)(stamp >> 8 * byte);
+}
+
 /* The flash. */
 
 static uint32_t sector_of(uint32_t address)
@@ -428,11 +442,11 @@ static void deselect(struct flash *flash, uint8_t *reply)
 }
 
 /* The page's data on the image: by a whole PROGRAM, or by one that was cut. */
-static void program(struct flash *flash, int cut)
+static void program(struct flash *flash, int cut, uint32_t stamp)
 {
-    uint32_t first = flash->cycle_address % HAZELCROOK_IMAGE / FLASH_PAGE * FLASH_PAGE;
-    uint8_t *values = flash->values + first;
-    uint8_t *masks = flash->masks + first;
+    uint32_t number = flash->cycle_address % HAZELCROOK_IMAGE / FLASH_PAGE;
+    uint8_t *values = flash->values + FLASH_PAGE * number;
+    uint8_t *masks = flash->masks + FLASH_PAGE * number;
     int place;
 
     if (sector_of(flash->cycle_address) != flash->watched)
@@ -441,26 +455,30 @@ static void program(struct flash *flash, int cut)
         masks[place] = cut ? masks[place] | (values[place] & ~flash->page[place]) : masks[place] & flash->page[place];
         values[place] &= flash->page[place];
     }
+    touch(flash->times, number, stamp);
 }
 
-static void erase(struct flash *flash, uint8_t value, uint8_t mask)
+static void erase(struct flash *flash, uint8_t value, uint8_t mask, uint32_t stamp)
 {
     int reached = flash->cycle == CHIP_ERASE ? !locks_out(flash, flash->watched)
                                              : sector_of(flash->cycle_address) == flash->watched;
+    uint32_t number;
 
-    if (reached) {
-        memset(flash->values, value, HAZELCROOK_IMAGE);
-        memset(flash->masks, mask, HAZELCROOK_IMAGE);
-    }
+    if (!reached)
+        return;
+    memset(flash->values, value, HAZELCROOK_IMAGE);
+    memset(flash->masks, mask, HAZELCROOK_IMAGE);
+    for (number = 0; number < HAZELCROOK_FLASH_PAGES; number++)
+        touch(flash->times, number, stamp);
 }
 
-static void end_flash(struct flash *flash, uint8_t *reply)
+static void end_flash(struct flash *flash, uint32_t stamp, uint8_t *reply)
 {
     switch (flash->cycle) {
     case NONE: put_kind(reply, HAZELCROOK_NO_CYCLE); return;
-    case PROGRAM: program(flash, 0); break;
+    case PROGRAM: program(flash, 0, stamp); break;
     case WRSR: flash->status = flash->byte & WRITTEN; break;
-    default: erase(flash, 0xff, 0x00); break;
+    default: erase(flash, 0xff, 0x00, stamp); break;
     }
     flash->cycle = NONE;
     flash->status &= (uint8_t)~WRITE_ENABLE;
@@ -468,12 +486,12 @@ static void end_flash(struct flash *flash, uint8_t *reply)
 }
 
 /* The supply falls, no WRSR's cycle running. */
-static void lose_flash(struct flash *flash)
+static void lose_flash(struct flash *flash, uint32_t stamp)
 {
     if (flash->cycle == PROGRAM)
-        program(flash, 1);
+        program(flash, 1, stamp);
     else if (flash->cycle != NONE)
-        erase(flash, 0x00, 0xff);
+        erase(flash, 0x00, 0xff, stamp);
     flash->cycle = NONE;
     flash->status &= (uint8_t)~WRITE_ENABLE;
     if (flash->frame != F_IDLE)
@@ -561,13 +579,13 @@ static void stop_frame(struct eeprom *eeprom, int lock, uint8_t *reply)
 
 static uint32_t cycle_page(const struct eeprom *eeprom)
 {
-    return eeprom->next / EEPROM_PAGE * EEPROM_PAGE;
+    return eeprom->next / EEPROM_PAGE;
 }
 
 /* The bytes sent. */
 static void store(struct eeprom *eeprom)
 {
-    uint32_t first = cycle_page(eeprom);
+    uint32_t first = EEPROM_PAGE * cycle_page(eeprom);
     uint32_t place;
 
     for (place = 0; place < EEPROM_PAGE; place++)
@@ -580,26 +598,29 @@ static void store(struct eeprom *eeprom)
 /* A cut cycle leaves nothing sure in its page, sent or not (request 3/12). */
 static void doubt_page(struct eeprom *eeprom)
 {
-    uint32_t first = cycle_page(eeprom);
+    uint32_t first = EEPROM_PAGE * cycle_page(eeprom);
 
     memset(eeprom->values + first, 0x00, EEPROM_PAGE);
     memset(eeprom->masks + first, 0xff, EEPROM_PAGE);
 }
 
-static void end_eeprom(struct eeprom *eeprom, uint8_t *reply)
+static void end_eeprom(struct eeprom *eeprom, uint32_t stamp, uint8_t *reply)
 {
     if (eeprom->in_cycle) {
         store(eeprom);
+        touch(eeprom->times, cycle_page(eeprom), stamp);
         put_kind(reply, HAZELCROOK_ENDS);
     } else
         put_kind(reply, HAZELCROOK_NO_CYCLE);
     eeprom->in_cycle = 0;
 }
 
-static void lose_eeprom(struct eeprom *eeprom)
+static void lose_eeprom(struct eeprom *eeprom, uint32_t stamp)
 {
-    if (eeprom->in_cycle)
+    if (eeprom->in_cycle) {
         doubt_page(eeprom);
+        touch(eeprom->times, cycle_page(eeprom), stamp);
+    }
     eeprom->in_cycle = 0;
     eeprom->has_counter = 0;
     if (eeprom->frame != E_IDLE)
@@ -607,11 +628,11 @@ static void lose_eeprom(struct eeprom *eeprom)
 }
 
 /* The lines; the supply's fall. */
-static void lose_supply(struct board *board)
+static void lose_supply(struct board *board, uint32_t stamp)
 {
     if (board->supply) {
-        lose_flash(&board->flash);
-        lose_eeprom(&board->eeprom);
+        lose_flash(&board->flash, stamp);
+        lose_eeprom(&board->eeprom, stamp);
         board->supply = 0;
     }
 }
@@ -624,14 +645,14 @@ static void play(struct board *board, const struct record *record, uint8_t *repl
     case F_X: exchange(&board->flash, record, reply); break;
     case F_CUT: board->flash.frame = F_VOID; break;
     case F_DES: deselect(&board->flash, reply); break;
-    case F_END: end_flash(&board->flash, reply); break;
+    case F_END: end_flash(&board->flash, record->stamp, reply); break;
     case E_STA: start_frame(&board->eeprom, board->supply); break;
     case E_B: take_eeprom_byte(&board->eeprom, record, reply); break;
     case E_CUT: board->eeprom.frame = E_VOID; break;
     case E_STO: stop_frame(&board->eeprom, board->lock, reply); break;
-    case E_END: end_eeprom(&board->eeprom, reply); break;
+    case E_END: end_eeprom(&board->eeprom, record->stamp, reply); break;
     case L_ON: board->supply = 1; break;
-    case L_OFF: lose_supply(board); break;
+    case L_OFF: lose_supply(board, record->stamp); break;
     case L_LOCK: board->lock = 1; board->flash.lock_off = 0; break;
     case L_FREE: board->lock = 0; break;
     }
@@ -698,7 +719,8 @@ static uint32_t pass(struct text *text, struct board *board, uint8_t *replies, u
 
 uint32_t pass_replay(const uint8_t *text, size_t text_len, uint8_t *flash, size_t flash_len, uint8_t *flash_mask,
                      size_t flash_mask_len, uint8_t *eeprom, size_t eeprom_len, uint8_t *eeprom_mask,
-                     size_t eeprom_mask_len, uint8_t *replies, size_t replies_len, uint8_t *result, size_t result_len)
+                     size_t eeprom_mask_len, uint8_t *times, size_t times_len, uint8_t *replies, size_t replies_len,
+                     uint8_t *result, size_t result_len)
 {
     struct text left = {text, text + text_len};
     struct board board;
@@ -707,7 +729,7 @@ uint32_t pass_replay(const uint8_t *text, size_t text_len, uint8_t *flash, size_
     if (result_len != HAZELCROOK_RESULT)
         return HAZELCROOK_BAD_BUFFERS;
     if (flash_len != HAZELCROOK_IMAGE || flash_mask_len != HAZELCROOK_IMAGE || eeprom_len != HAZELCROOK_IMAGE ||
-        eeprom_mask_len != HAZELCROOK_IMAGE || replies_len != HAZELCROOK_REPLIES ||
+        eeprom_mask_len != HAZELCROOK_IMAGE || times_len != HAZELCROOK_TIMES || replies_len != HAZELCROOK_REPLIES ||
         any_bit_in_both(flash, flash_mask) || any_bit_in_both(eeprom, eeprom_mask))
         return put_result(result, HAZELCROOK_BAD_BUFFERS, 0, 0, 0);
     if (text_len > HAZELCROOK_TEXT)
@@ -715,11 +737,14 @@ uint32_t pass_replay(const uint8_t *text, size_t text_len, uint8_t *flash, size_
     memset(&board, 0, sizeof board);
     board.flash.values = flash;
     board.flash.masks = flash_mask;
+    board.flash.times = times;
     board.eeprom.values = eeprom;
     board.eeprom.masks = eeprom_mask;
+    board.eeprom.times = times + EEPROM_TIMES;
     board.supply = 1;
     field = take_board(&left, &board);
     if (field != 0)
         return put_result(result, HAZELCROOK_BAD_LINE, 1, 0, field);
+    memset(times, HAZELCROOK_NEVER, times_len);
     return pass(&left, &board, replies, result);
 }

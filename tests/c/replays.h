@@ -10,8 +10,8 @@
 
 typedef uint32_t replay_call(const uint8_t *text, size_t text_len, uint8_t *flash, size_t flash_len,
                              uint8_t *flash_mask, size_t flash_mask_len, uint8_t *eeprom, size_t eeprom_len,
-                             uint8_t *eeprom_mask, size_t eeprom_mask_len, uint8_t *replies, size_t replies_len,
-                             uint8_t *result, size_t result_len);
+                             uint8_t *eeprom_mask, size_t eeprom_mask_len, uint8_t *times, size_t times_len,
+                             uint8_t *replies, size_t replies_len, uint8_t *result, size_t result_len);
 
 /* Plain Rust: each order of a stamp from a fresh copy of the images (tests/plain). */
 replay_call plain_replay;

@@ -4,9 +4,9 @@
  *   viewer [-f FLASH.BIN] [-e EEPROM.BIN] TRACE [flash|eeprom PAGE]
  *
  * It prints the answer, with its line or its stamp and the count, and of a line of wrong form the bad field; the reply
- * of each record that was played; and the page asked for. In a page a sure byte is two digits, and a byte with doubtful
- * bits is value/mask as in a listing: 0f/f0 has four sure ones, and four bits that the trace does not fix. A row like
- * the one above it is left out; `*` stands for all such rows in a run.
+ * of each record that was played; and the page asked for, with the stamp at which it was last written. In a page a sure
+ * byte is two digits, and a byte with doubtful bits is value/mask as in a listing: 0f/f0 has four sure ones, and four
+ * bits that the trace does not fix. A row like the one above it is left out; `*` stands for all such rows in a run.
  *
  * Exit status: 0 whatever the answer; 1 the library broke its word; 2 a file or the command is at fault.
  */
@@ -16,16 +16,16 @@
 
 #include "guarded.h"
 
-/* The seven buffers, in the order of the call. Here they lie between pages that nothing may touch, as this viewer is a
+/* The eight buffers, in the order of the call. Here they lie between pages that nothing may touch, as this viewer is a
  * test too; any memory of the caller will do. */
-enum { TEXT, FLASH, FLASH_MASK, EEPROM, EEPROM_MASK, REPLIES, RESULT, BUFFERS };
+enum { TEXT, FLASH, FLASH_MASK, EEPROM, EEPROM_MASK, TIMES, REPLIES, RESULT, BUFFERS };
 
 static uint32_t replay(const struct lent *desk)
 {
     return hazelcrook_replay(desk[TEXT].bytes, desk[TEXT].len, desk[FLASH].bytes, desk[FLASH].len,
                              desk[FLASH_MASK].bytes, desk[FLASH_MASK].len, desk[EEPROM].bytes, desk[EEPROM].len,
-                             desk[EEPROM_MASK].bytes, desk[EEPROM_MASK].len, desk[REPLIES].bytes, desk[REPLIES].len,
-                             desk[RESULT].bytes, desk[RESULT].len);
+                             desk[EEPROM_MASK].bytes, desk[EEPROM_MASK].len, desk[TIMES].bytes, desk[TIMES].len,
+                             desk[REPLIES].bytes, desk[REPLIES].len, desk[RESULT].bytes, desk[RESULT].len);
 }
 
 /* Filling the buffers. */
@@ -72,6 +72,7 @@ static void set_up(struct lent *desk, const char *trace, const char *flash_dump,
     only_read(&desk[TEXT]);
     put_image(&desk[FLASH], &desk[FLASH_MASK], flash_dump);
     put_image(&desk[EEPROM], &desk[EEPROM_MASK], eeprom_dump);
+    desk[TIMES] = filled(HAZELCROOK_TIMES, 0xee);
     desk[REPLIES] = filled(HAZELCROOK_REPLIES, 0);
     desk[RESULT] = filled(HAZELCROOK_RESULT, 0xee);
 }
@@ -81,9 +82,7 @@ static void set_up(struct lent *desk, const char *trace, const char *flash_dump,
 /* A number of the result: 0 the answer, 1 the line or the stamp, 2 the count, 3 the field. */
 static uint32_t result_number(const struct lent *desk, int which)
 {
-    const uint8_t *four = desk[RESULT].bytes + 4 * which;
-
-    return (uint32_t)four[0] | (uint32_t)four[1] << 8 | (uint32_t)four[2] << 16 | (uint32_t)four[3] << 24;
+    return number_of(desk[RESULT].bytes + 4 * which);
 }
 
 static const char *answer_words(uint32_t answer)
@@ -236,6 +235,21 @@ static void show_rows(const uint8_t *values, const uint8_t *masks, size_t place,
     }
 }
 
+/* When a page was last written. A refused trace tells nothing of it; one that stops, what was before that stamp. */
+static void show_time(const struct lent *desk, uint32_t chip, size_t number)
+{
+    const uint8_t *entry = desk[TIMES].bytes + HAZELCROOK_TIME * (chip == 0 ? number : HAZELCROOK_FLASH_PAGES + number);
+    uint32_t answer = result_number(desk, 0);
+
+    if (answer == HAZELCROOK_SETTLED || answer >= HAZELCROOK_CROWDED) {
+        if (entry[0] == HAZELCROOK_WRITTEN)
+            printf(", last written at %u", (unsigned)number_of(entry + 1));
+        else
+            printf(answer == HAZELCROOK_SETTLED ? ", not written in this trace" : ", not written before the stop");
+    }
+    printf("\n");
+}
+
 /* A page is a part of the caller's own image: the library says where it stands. Length 0 is refusal 11. */
 static void show_page(const struct lent *desk, uint32_t chip, size_t number)
 {
@@ -248,7 +262,8 @@ static void show_page(const struct lent *desk, uint32_t chip, size_t number)
         printf("refused 11 (place %zu, length %zu)\n", place, length);
         return;
     }
-    printf("%zu bytes from %04x\n", length, (unsigned)place);
+    printf("%zu bytes from %04x", length, (unsigned)place);
+    show_time(desk, chip, number);
     show_rows(desk[image].bytes, desk[image + 1].bytes, place, length);
 }
 

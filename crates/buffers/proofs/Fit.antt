@@ -11,12 +11,14 @@ use Rattle.image.specs.Image.{spans}
 use Rattle.image.specs.Images.{imageAt, everyChip, keptBytes, Kept, AllClean}
 use Rattle.image.proofs.Each.{chip-by-chip, all-chips}
 use Rattle.record.specs.Lengths.{repliesLength, resultLength}
+use Rattle.times.specs.Times.{timesLength}
 use Rattle.buffers.specs.Buffers.{Buffers, isClear, fit}
 use Rattle.buffers.proofs.Clear.{clear-clean, clean-clear}
 
 -- every length is right, and in each image no bit is set in both value and mask
 pub record Fit (x : Buffers) : Type 0 where
   pub kept : Kept (x .images)
+  pub times-long : length (x .times) ≡ timesLength
   pub replies-long : length (x .replies) ≡ repliesLength
   pub result-long : length (x .result) ≡ resultLength
   pub clean : AllClean (x .images)
@@ -31,14 +33,18 @@ module _ (x : Buffers) where
   pub fit-says : fit x ≡ true → Fit x
   unfolding fit
   fit-says e =
-      let a = both (everyChip long) (pick (eqb (length (x .replies)) repliesLength) (pick (eqb (length (x .result)) resultLength) (everyChip clean-one) false) false) e in
-      let b = both (eqb (length (x .replies)) repliesLength) (pick (eqb (length (x .result)) resultLength) (everyChip clean-one) false) (a .1) in
-      let c = both (eqb (length (x .result)) resultLength) (everyChip clean-one) (b .1) in
+      let by-result = pick (eqb (length (x .result)) resultLength) (everyChip clean-one) false in
+      let by-replies = pick (eqb (length (x .replies)) repliesLength) by-result false in
+      let a = both (everyChip long) (pick (eqb (length (x .times)) timesLength) by-replies false) e in
+      let b = both (eqb (length (x .times)) timesLength) by-replies (a .1) in
+      let c = both (eqb (length (x .replies)) repliesLength) by-result (b .1) in
+      let d = both (eqb (length (x .result)) resultLength) (everyChip clean-one) (c .1) in
       record {
         kept = chip-by-chip long (a .0);
-        replies-long = eqb-true _ _ (b .0);
-        result-long = eqb-true _ _ (c .0);
-        clean = λ chip. clear-clean (imageAt chip (x .images)) (chip-by-chip clean-one (c .1) chip);
+        times-long = eqb-true _ _ (b .0);
+        replies-long = eqb-true _ _ (c .0);
+        result-long = eqb-true _ _ (d .0);
+        clean = λ chip. clear-clean (imageAt chip (x .images)) (chip-by-chip clean-one (d .1) chip);
       }
 
   -- refusal 1 has no other ground
@@ -47,6 +53,7 @@ module _ (x : Buffers) where
   fit-only f =
       rw (
         all-chips long (f .kept),
+        eq-eqb _ _ (f .times-long),
         eq-eqb _ _ (f .replies-long),
         eq-eqb _ _ (f .result-long),
       )

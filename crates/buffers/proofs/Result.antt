@@ -7,7 +7,8 @@ use borrow.Author.Tests.{eq-eqb}
 use lib.ListN.{length, drop-of-length-le}
 use lib.Seq.{sets, sets-eq}
 use Rattle.record.specs.Lengths.{resultLength}
-use Rattle.buffers.specs.Buffers.{word, resultBytes, resultAfter}
+use Rattle.record.specs.Word.{word}
+use Rattle.buffers.specs.Buffers.{resultBytes, resultAfter}
 
 all-set : (vs l : List ℕ) → length l ≡ length vs → sets l 0 vs ≡ vs
 all-set vs l e =

@@ -1,5 +1,5 @@
--- Believed: The lent buffers: when they fit, what the result holds, and how the replies stand (document 01, 'Replies and stopping'; document 02, request 2/12).
-use Prim.Native.Nat.{ℕ, _/_, _%_}
+-- Believed: The lent buffers: when they fit, and what the result holds (document 01, 'Replies and stopping'; document 02, requests 1/12 and 2/12).
+use Prim.Native.Nat.{ℕ}
 use mathlib.Core.Bool.{Bool, true, false}
 use mathlib.Core.List.{List, [], _∷_, _++_}
 use lib.Bits.{bitAnd}
@@ -7,19 +7,22 @@ use lib.Dec.{eqb}
 use lib.ListN.{length}
 use Rattle.law.specs.Words.{pick}
 use Rattle.record.specs.Lengths.{repliesLength, resultLength}
+use Rattle.record.specs.Word.{word}
 use Rattle.image.specs.Image.{Image, spans}
 use Rattle.image.specs.Images.{Images, imagesOf, everyChip, imageAt, keptBytes}
+use Rattle.times.specs.Times.{timesLength}
 
--- what a replay changes: the images with their masks, the replies, the result
+-- what a replay changes: the images with their masks, the table of times, the replies, the result
 pub record Buffers : Type 0 where
   pub images : Images
+  pub times : List ℕ
   pub replies : List ℕ
   pub result : List ℕ
 
--- flash values, flash masks, EEPROM values, EEPROM masks, replies, result
-abbrev pub buffersOf : List ℕ → List ℕ → List ℕ → List ℕ → List ℕ → List ℕ → Buffers
-buffersOf fv fm ev em replies result =
-    record { images = imagesOf fv fm ev em; replies = replies; result = result }
+-- flash values, flash masks, EEPROM values, EEPROM masks, times, replies, result
+abbrev pub buffersOf : List ℕ → List ℕ → List ℕ → List ℕ → List ℕ → List ℕ → List ℕ → Buffers
+buffersOf fv fm ev em times replies result =
+    record { images = imagesOf fv fm ev em; times = times; replies = replies; result = result }
 
 -- refusal 1: 'a bit is set in both', value and mask. Here none is, place by place
 unfoldable pub clear : List ℕ → List ℕ → Bool
@@ -35,13 +38,10 @@ isClear i = clear (i .values) (i .masks)
 unfoldable pub fit : Buffers → Bool
 fit x =
     pick (everyChip (λ chip. spans (keptBytes chip) (imageAt chip (x .images))))
+    (pick (eqb (length (x .times)) timesLength)
     (pick (eqb (length (x .replies)) repliesLength)
     (pick (eqb (length (x .result)) resultLength)
-    (everyChip (λ chip. isClear (imageAt chip (x .images)))) false) false) false
-
--- the result's numbers: 'four bytes each, low byte first'
-abbrev pub word : ℕ → List ℕ
-word a = (a % 256) ∷ (a / 256 % 256) ∷ (a / 65536 % 256) ∷ (a / 16777216 % 256) ∷ []
+    (everyChip (λ chip. isClear (imageAt chip (x .images)))) false) false) false) false
 
 -- 'answer, line or stamp, count', and 'the last four the field or 0'
 unfoldable pub resultBytes : ℕ → ℕ → ℕ → ℕ → List ℕ

@@ -1,4 +1,4 @@
-// The lent buffers of a replay: whether they fit, and what is written to the result and to the replies.
+// The lent buffers of a replay: whether they fit, and what is written to the result and to the replies; the table of times has a room of its own.
 // A buffer of another length than the documents give it is left alone.
 ghost use mathlib.Core.Path.{_≡_};
 ghost use mathlib.Core.List.{[], _∷_};
@@ -6,9 +6,10 @@ ghost use Prim.Native.Nat.{_+_, _≤_};
 ghost use lib.ListN.{length, replicate};
 ghost use lib.Seq.{sets};
 ghost use Rattle.record.specs.Replies.{replyBytes};
+ghost use Rattle.record.specs.Word.{word};
 ghost use Rattle.image.specs.Image.{imageOf, spans};
 ghost use Rattle.image.specs.Images.{keptBytes};
-ghost use Rattle.buffers.specs.Buffers.{buffersOf, clear, fit, word, resultAfter};
+ghost use Rattle.buffers.specs.Buffers.{buffersOf, clear, fit, resultAfter};
 ghost use Rattle.buffers.specs.Put.{repliesWith};
 use record::Chip;
 use record::Match;
@@ -20,15 +21,19 @@ pub fn fits_all(
     flash_mask: &[u8],
     eeprom: &[u8],
     eeprom_mask: &[u8],
+    times: &[u8],
     replies: &[u8],
     result: &[u8],
 ) -> bool
-    ensures { λ r. ⌜ r ≡ fit (buffersOf (now (flash .entry)) (now («flash_mask» .entry)) (now (eeprom .entry)) (now («eeprom_mask» .entry)) (now (replies .entry)) (now (result .entry))) ⌝ }
+    ensures { λ r. ⌜ r ≡ fit (buffersOf (now (flash .entry)) (now («flash_mask» .entry)) (now (eeprom .entry)) (now («eeprom_mask» .entry)) (now (times .entry)) (now (replies .entry)) (now (result .entry))) ⌝ }
 {
     if !image_fits(Chip::Flash, flash, flash_mask) {
         return false;
     }
     if !image_fits(Chip::Eeprom, eeprom, eeprom_mask) {
+        return false;
+    }
+    if times.len() != times::TIMES {
         return false;
     }
     if replies.len() != record::REPLIES {
@@ -81,13 +86,13 @@ pub fn put_result(result: &mut [u8], answer: u32, number: usize, count: u32, fie
     put_word(result, 12, field as usize);
 }
 
-// Nothing is replied yet.
-pub fn clear_replies(replies: &mut [u8])
-    ensures { λ _. ⌜ now (replies .exit) ≡ replicate (length (now (replies .entry))) 0 ⌝ }
+// Nothing is written yet, and nothing replied: all of s is 0.
+pub fn clear_all(s: &mut [u8])
+    ensures { λ _. ⌜ now (s .exit) ≡ replicate (length (now (s .entry))) 0 ⌝ }
 {
     let mut i = 0;
-    while i < replies.len() {
-        replies[i] = 0;
+    while i < s.len() {
+        s[i] = 0;
         i += 1;
     }
 }

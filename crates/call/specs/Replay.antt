@@ -1,4 +1,4 @@
--- Believed: What the call answers and leaves (document 01, 'Replies and stopping', the table and what follows it; document 02, request 2/12).
+-- Believed: What the call answers and leaves (document 01, 'Replies and stopping', the table and what follows it; document 02, requests 1/12 and 2/12).
 use mathlib.Core.Path.{_≡_}
 use mathlib.Core.Bool.{true, false}
 use mathlib.Core.Logic.{_⊎_}
@@ -18,6 +18,7 @@ use Rattle.record.specs.declared.Answer.the-variants.{Settled, BadBuffers, TooL
 use Rattle.record.specs.Answers.{answerNumber}
 use Rattle.record.specs.declared.Chip.{Chip}
 use Rattle.record.specs.declared.Chip.the-variants.{Flash, Eeprom}
+use Rattle.times.specs.Times.{timeBytes}
 use Rattle.machine.specs.Replies.{compared}
 use Rattle.machine.specs.Machine.{Machine, machineAtStart, onMachine}
 use Rattle.text.specs.Texts.{textLimit, Readable, Refused}
@@ -37,7 +38,7 @@ endedAs n x = record { answer = n; buffers = x }
 unfoldable pub refusedAs : Answer → ℕ → ℕ → Buffers → Ended
 refusedAs a line field x =
     endedAs (answerNumber a)
-    (record { images = x .images; replies = x .replies; result = resultAfter (answerNumber a) line 0 field (x .result) })
+    (record { images = x .images; times = x .times; replies = x .replies; result = resultAfter (answerNumber a) line 0 field (x .result) })
 
 -- the replies to the records, four bytes each, in the order of the lines
 unfoldable pub replyLines : List Record → List Reply → List ℕ
@@ -61,6 +62,7 @@ shownAs b n t rs v =
     endedAs n
     (record {
       images = v .state .images;
+      times = timeBytes (v .state .times);
       replies = padded (replyLines rs (shownAt (onMachine b) rs v));
       result = resultBytes n t (countTwos rs (shownAt (onMachine b) rs v)) 0;
     })
@@ -70,7 +72,7 @@ reasonAnswer crowded = Crowded
 reasonAnswer differ = OrdersDiffer
 reasonAnswer lost = StatusLost
 
--- 0 leaves the end state and all replies; 6, 7, 8 state and replies before that stamp
+-- 0 leaves the end state, with the times of all pages, and all replies; 6, 7, 8 those before that stamp
 unfoldable pub shown : Board → List Record → meaning.Answer Machine Reply → Ended
 shown b rs (meaning.settled v) = shownAs b (answerNumber Settled) 0 rs v
 shown b rs (meaning.stopped n t v) = shownAs b (answerNumber (reasonAnswer n)) t (before (onMachine b) t rs) v

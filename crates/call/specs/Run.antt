@@ -12,6 +12,7 @@ use Rattle.record.specs.declared.Reply.{Reply}
 use Rattle.record.specs.declared.Answer.{Answer}
 use Rattle.record.specs.Answers.{answerNumber}
 use Rattle.image.specs.Images.{Images}
+use Rattle.times.specs.Times.{timesLength}
 use Rattle.orders.specs.declared.Verdict.{Verdict}
 use Rattle.orders.specs.declared.Verdict.the-variants as verdict
 use Rattle.line.specs.Boards.{spelledBoard}
@@ -22,12 +23,12 @@ use Rattle.buffers.specs.Buffers.{resultBytes}
 use Rattle.call.specs.Replay.{Ended, endedAs, shown}
 
 -- an answer with its stamp and count, and the buffers as they are left
-abbrev pub endedWith : Answer → ℕ → ℕ → Images → List ℕ → Ended
-endedWith a t count x replies =
-    endedAs (answerNumber a) (record { images = x; replies = replies; result = resultBytes (answerNumber a) t count 0 })
+abbrev pub endedWith : Answer → ℕ → ℕ → Images → List ℕ → List ℕ → Ended
+endedWith a t count x times replies =
+    endedAs (answerNumber a) (record { images = x; times = times; replies = replies; result = resultBytes (answerNumber a) t count 0 })
 
-pub record Runs (text : List ℕ) (first : ℕ) (b : Board) (x : Images) (replies : List ℕ) (e : Ended) : Type 0 where
-  pub runs : (rs : List Record) → Readable text b rs → first ≡ length (spelledBoard b) → replies ≡ replicate repliesLength 0 →
+pub record Runs (text : List ℕ) (first : ℕ) (b : Board) (x : Images) (times replies : List ℕ) (e : Ended) : Type 0 where
+  pub runs : (rs : List Record) → Readable text b rs → first ≡ length (spelledBoard b) → times ≡ replicate timesLength 0 → replies ≡ replicate repliesLength 0 →
       (z : meaning.Answer Machine Reply) × Means (onMachine b) rs (machineAtStart b x) z × (e ≡ shown b rs z)
 
 -- whether the replay goes on

@@ -35,6 +35,7 @@ use Rattle.flash.proofs.Written as program
 use Rattle.flash.proofs.Written.{Sends, done, byte}
 use Rattle.flash.specs.declared.FlashFrame.the-variants.{Idle}
 use Rattle.eeprom.specs.Chip as eeprom-chip
+use Rattle.times.specs.Times.{neverWritten}
 use Rattle.machine.specs.declared.effects.Stroke.the-variants.{Whole}
 use Rattle.machine.proofs.FlashWritten.{cycle-ends, later-replaces}
 use Rattle.machine.specs.Effects.{flashAfter, eepromAfter}
@@ -68,7 +69,7 @@ unfolding after playOn movedOf flashAfter eepromAfter
 whole-program x ds some =
     ap (λ (rs : List Record). after (onMachine plain) (wren 0 ++ (onF 0 flash.Select ∷ rs)) (machineAtStart plain x) .images .flash)
     (append-assoc (xs 0 (0x02 ∷ (three 0x00000 ++ ds))) (onF 0 flash.Deselect ∷ []) (onF 0 flash.End ∷ []))
-    ∙ cycle-ends plain 0x02 refl 0x02 0x00 0x00 0x00 refl refl ds some (sends-xs 0 (0x02 ∷ (three 0x00000 ++ ds))) Idle blank false eeprom-chip.startOf x 0 0 0
+    ∙ cycle-ends plain 0x02 refl 0x02 0x00 0x00 0x00 refl refl ds some (sends-xs 0 (0x02 ∷ (three 0x00000 ++ ds))) Idle blank false eeprom-chip.startOf x neverWritten 0 0 0
 
 module _ (x : Images) (fit : spans (keptBytes Chip.Flash) (x .flash) ≡ true) where
   pub case1 : Case1 x

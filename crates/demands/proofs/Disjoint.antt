@@ -6,9 +6,8 @@ use mathlib.Core.List.{List, [], _∷_, _++_}
 use Prim.Native.Nat.{ℕ, zero, suc, _+_, _-_, _*_}
 use native.Mathlib.Omega.{arith}
 use lib.Bits.{bitAnd, and-zero-r}
-use lib.Dec.{eqb, ltb}
+use lib.Dec.{ltb}
 use lib.ListN.{length, getD, replicate}
-use Rattle.law.specs.Choice.{of-both}
 use Rattle.law.specs.Words.{All}
 use Rattle.meaning.specs.Meaning.{after}
 use Rattle.meaning.specs.Listing.{said}
@@ -24,21 +23,18 @@ use Rattle.cell.specs.Rules.{Disjoint}
 use Rattle.record.specs.declared.Chip.{Chip}
 use Rattle.image.specs.Image.{Image, Clean}
 use Rattle.image.specs.Images.{Images, AllClean}
-use Rattle.image.specs.Cycles.{programPage, cutProgramPage, eraseAll, cutEraseAll}
 use Rattle.image.proofs.Keeping.{clean-programPage, clean-cutProgramPage, clean-eraseAll, clean-cutEraseAll, clean-storePage, clean-cutStorePage}
 use Rattle.controls.specs.declared.Controls.{Controls}
 use Rattle.controls.specs.Play.{movedOf}
 use Rattle.flash.specs.declared.Flash.{Flash}
-use Rattle.flash.specs.declared.FlashStatus.{FlashStatus}
-use Rattle.flash.specs.declared.FlashCycle.{FlashCycle}
-use Rattle.flash.specs.declared.FlashCycle.the-variants as flash-cycle
 use Rattle.eeprom.specs.declared.Eeprom.{Eeprom}
-use Rattle.eeprom.specs.declared.EepromCycle.{EepromCycle}
 use Rattle.eeprom.specs.declared.Sent.{Sent}
-use Rattle.eeprom.specs.declared.EepromCycle.the-variants as eeprom-cycle
+use Rattle.times.specs.declared.Pages.{Pages}
+use Rattle.times.specs.declared.Pages.the-variants as pages
+use Rattle.times.specs.Times.{onPages}
 use Rattle.machine.specs.declared.effects.Stroke.{Stroke}
 use Rattle.machine.specs.declared.effects.Stroke.the-variants.{Nothing, Whole, Cut}
-use Rattle.machine.specs.Effects.{sectorOfPage, inSector, reached, flashBy, flashAfter, eepromBy, eepromAfter, strokeFor, imagesAfter}
+use Rattle.machine.specs.Effects.{strokeFor, flashTouched, eepromTouched, programBy, eraseBy, sentIn, storeBy, flashAfter, eepromAfter, imagesAfter}
 use Rattle.machine.specs.Replies.{delivered}
 use Rattle.machine.specs.Machine.{Machine, machineAtStart, imageFor, onMachine, playOn, saysOn}
 use Rattle.record.specs.Lengths.{repliesLength}
@@ -51,36 +47,40 @@ use Rattle.demands.specs.Lines.{recordsOf, leftBy}
 use Rattle.demands.proofs.Shown.{left-shown, call-left}
 use Rattle.demands.proofs.Ways.{Way, unfit, long, bad, played, way}
 
--- ---- a cycle keeps it
-module _ (programmed : ℕ → List ℕ → Image → Image) (erased : Image → Image) where
-  flash-by : (i : Image) → Clean i → ((n : ℕ) (page : List ℕ) → Clean (programmed n page i)) → Clean (erased i) →
-      (watched : ℕ) (c : FlashCycle) (page : List ℕ) (s : FlashStatus) → Clean (flashBy programmed erased watched c page s i)
-  flash-by i h p e watched flash-cycle.None page s = h
-  flash-by i h p e watched (flash-cycle.Program n) page s = of-both Clean (eqb (sectorOfPage n) watched) (programmed (inSector n) page i) i (p (inSector n) page) h
-  flash-by i h p e watched (flash-cycle.SectorErase k) page s = of-both Clean (eqb k watched) (erased i) i e h
-  flash-by i h p e watched flash-cycle.ChipErase page s = of-both Clean (reached s watched) (erased i) i e h
-  flash-by i h p e watched (flash-cycle.WriteStatus bits) page s = h
+-- ---- a cycle keeps it, on the pages that it touches
+on-pages : (one : ℕ → Image → Image) (all : Image → Image) (p : Pages) (i : Image) → Clean i → ((n : ℕ) → Clean (one n i)) → Clean (all i) → Clean (onPages one all p i)
+on-pages one all pages.None i h k g = h
+on-pages one all (pages.One n) i h k g = k n
+on-pages one all pages.All i h k g = g
 
-flash-after : (k : Stroke) (watched : ℕ) (x : Flash) (i : Image) → Clean i → Clean (flashAfter k watched x i)
-unfolding flashAfter
-flash-after Nothing watched x i h = h
-flash-after Whole watched x i h = flash-by programPage eraseAll i h (clean-programPage i h) (clean-eraseAll i h) watched (x .cycle) (x .page) (x .status)
-flash-after Cut watched x i h = flash-by cutProgramPage cutEraseAll i h (clean-cutProgramPage i h) (clean-cutEraseAll i h) watched (x .cycle) (x .page) (x .status)
+module _ (i : Image) (h : Clean i) where
+  program-by : (s : Stroke) (bytes : List ℕ) (n : ℕ) → Clean (programBy s bytes n i)
+  program-by Nothing bytes n = h
+  program-by Whole bytes n = clean-programPage i h n bytes
+  program-by Cut bytes n = clean-cutProgramPage i h n bytes
 
-eeprom-by : (stored : Sent → Image → Image) (i : Image) → Clean i → ((s : Sent) → Clean (stored s i)) → (c : EepromCycle) → Clean (eepromBy stored c i)
-eeprom-by stored i h p eeprom-cycle.None = h
-eeprom-by stored i h p (eeprom-cycle.Write s) = p s
+  erase-by : (s : Stroke) → Clean (eraseBy s i)
+  erase-by Nothing = h
+  erase-by Whole = clean-eraseAll i h
+  erase-by Cut = clean-cutEraseAll i h
 
-eeprom-after : (k : Stroke) (x : Eeprom) (i : Image) → Clean i → Clean (eepromAfter k x i)
-unfolding eepromAfter
-eeprom-after Nothing x i h = h
-eeprom-after Whole x i h = eeprom-by _ i h (λ s. clean-storePage i h (s .page) (s .first) (s .count) (x .page)) (x .cycle)
-eeprom-after Cut x i h = eeprom-by _ i h (λ s. clean-cutStorePage i h (s .page)) (x .cycle)
+  store-by : (s : Stroke) (sent : Sent) (bytes : List ℕ) (n : ℕ) → Clean (storeBy s sent bytes n i)
+  store-by Nothing sent bytes n = h
+  store-by Whole sent bytes n = clean-storePage i h n (sent .first) (sent .count) bytes
+  store-by Cut sent bytes n = clean-cutStorePage i h n
+
+  flash-after : (s : Stroke) (watched : ℕ) (x : Flash) → Clean (flashAfter s watched x i)
+  unfolding flashAfter
+  flash-after s watched x = on-pages _ _ (flashTouched s watched x) i h (program-by s (x .page)) (erase-by s)
+
+  eeprom-after : (s : Stroke) (x : Eeprom) → Clean (eepromAfter s x i)
+  unfolding eepromAfter
+  eeprom-after s x = on-pages _ _ (eepromTouched s x) i h (store-by s (sentIn (x .cycle)) (x .page)) h
 
 -- ---- a record keeps it, and so do all records
 images-clean : (b : Board) (c : Controls) (v : Event) (k : Skeleton) (x : Images) → AllClean x → AllClean (imagesAfter b c v k x)
-images-clean b c v k x h Chip.Flash = flash-after (strokeFor Chip.Flash (c .lines) v k) (b .sector) (c .flash) (x .flash) (h Chip.Flash)
-images-clean b c v k x h Chip.Eeprom = eeprom-after (strokeFor Chip.Eeprom (c .lines) v k) (c .eeprom) (x .eeprom) (h Chip.Eeprom)
+images-clean b c v k x h Chip.Flash = flash-after (x .flash) (h Chip.Flash) (strokeFor Chip.Flash (c .lines) v k) (b .sector) (c .flash)
+images-clean b c v k x h Chip.Eeprom = eeprom-after (x .eeprom) (h Chip.Eeprom) (strokeFor Chip.Eeprom (c .lines) v k) (c .eeprom)
 
 pub play-clean : (b : Board) (m : Machine) (r : Record) → AllClean (m .images) → AllClean (playOn b m r .images)
 unfolding playOn

@@ -1,4 +1,4 @@
--- Refusals 1 to 5 have exact grounds (document 01, 'Replies and stopping', the table): each is given where its ground holds and nowhere else, refusals 3 to 5 name the first bad line and 3 its first bad field, and all leave the images, the masks and the replies untouched.
+-- Refusals 1 to 5 have exact grounds (document 01, 'Replies and stopping', the table): each is given where its ground holds and nowhere else, refusals 3 to 5 name the first bad line and 3 its first bad field, and all leave the images, the masks, the table of times and the replies untouched.
 use mathlib.Core.Path.{_≡_, refl, sym, ap, subst, _∙_}
 use mathlib.Core.Bool.{Bool, true, false}
 use mathlib.Core.Logic.{_↔_, ⊎-elim}
@@ -21,7 +21,8 @@ use Rattle.machine.specs.Machine.{Machine}
 use Rattle.text.specs.Texts.{textLimit, Refused}
 use Rattle.text.proofs.Fields.{field-small, field-of}
 use Rattle.record.specs.Lengths.{resultLength}
-use Rattle.buffers.specs.Buffers.{Buffers, fit, word, resultBytes, resultAfter}
+use Rattle.record.specs.Word.{word}
+use Rattle.buffers.specs.Buffers.{Buffers, fit, resultBytes, resultAfter}
 use Rattle.buffers.proofs.Fit.{fit-says}
 use Rattle.buffers.proofs.Result.{result-written}
 use Rattle.call.specs.Replay.{Ended, endedAs, refusedAs, shownAs, shown, Replays}
@@ -40,7 +41,11 @@ module _ (x : Buffers) {e : Ended} (a : Answer) (n k : ℕ) (q : e ≡ refusedAs
 
   leaves : Untouched x e
   unfolding refusedAs
-  leaves = record { images = ap (λ (y : Ended). y .buffers .images) q; replies = ap (λ (y : Ended). y .buffers .replies) q }
+  leaves = record {
+    images = ap (λ (y : Ended). y .buffers .images) q;
+    times = ap (λ (y : Ended). y .buffers .times) q;
+    replies = ap (λ (y : Ended). y .buffers .replies) q;
+  }
 
 -- a readable text has no bad field
 shown-no-field : (b : Board) (rs : List Record) (z : meaning.Answer Machine Reply) → drop 12 (shown b rs z .buffers .result) ≡ word 0
@@ -158,7 +163,7 @@ module _ {text : List ℕ} {x : Buffers} {e : Ended} (p : Replays text x e) wher
   -- 'with a wrong length nothing is written there': nothing is written anywhere
   pub wrong-result-length : (length (x .result) ≡ resultLength → ⊥) → e ≡ endedAs 1 x
   unfolding refusedAs resultAfter
-  wrong-result-length h = p .unfit unfits ∙ ap (λ (t : Bool). endedAs 1 (record { images = x .images; replies = x .replies; result = pick t (resultBytes 1 0 0 0) (x .result) })) (ne-eqb _ _ h)
+  wrong-result-length h = p .unfit unfits ∙ ap (λ (t : Bool). endedAs 1 (record { images = x .images; times = x .times; replies = x .replies; result = pick t (resultBytes 1 0 0 0) (x .result) })) (ne-eqb _ _ h)
     where
       unfits : fit x ≡ false
       unfits = split (fit x) (λ t. absurd (h (fit-says x t .result-long))) (λ t. t)

@@ -11,6 +11,7 @@ use Rattle.record.specs.Lengths.{repliesLength, resultLength}
 use Rattle.image.specs.Image.{Image, imageOf, spans, cellAt, Clean}
 use Rattle.image.specs.Images.{Images, keptBytes, Kept, AllClean}
 use Rattle.image.proofs.Fitting.{lengths-span}
+use Rattle.times.specs.Times.{timesLength}
 use Rattle.buffers.specs.Buffers.{Buffers, fit}
 use Rattle.buffers.proofs.Fit.{fit-only}
 use Rattle.demands.proofs.Disjoint.{zeros-at}
@@ -46,13 +47,14 @@ both-clean Flash = erased-clean (keptBytes Flash)
 both-clean Eeprom = erased-clean (keptBytes Eeprom)
 
 pub erased : Buffers
-erased = record { images = bothErased; replies = replicate repliesLength 0; result = replicate resultLength 0 }
+erased = record { images = bothErased; times = replicate timesLength 0; replies = replicate repliesLength 0; result = replicate resultLength 0 }
 
 pub erased-fits : fit erased ≡ true
 unfolding erased
 erased-fits =
     fit-only erased (record {
       kept = both-kept;
+      times-long = length-replicate {A = ℕ} timesLength 0;
       replies-long = length-replicate {A = ℕ} repliesLength 0;
       result-long = length-replicate {A = ℕ} resultLength 0;
       clean = both-clean;

@@ -12,6 +12,9 @@ pub mod Count
 pub mod Disjoint
 pub mod Rewritten
 pub mod OrderOfLines
+pub mod LastTime
+pub mod Entries
+pub mod Times
 pub mod OneStamp
 pub mod BenchCases
 pub mod BenchSheet

@@ -1,4 +1,4 @@
--- Writing the lines of a trace in another allowed order changes no answer, no stamp, no count, no byte, no mark and no record's reply.
+-- Writing the lines of a trace in another allowed order changes no answer, no stamp, no count, no byte, no mark, no page's time and no record's reply.
 use mathlib.Core.Path.{_≡_, refl, sym, ap, ap₂, subst, subst₂, _∙_}
 use mathlib.Core.Bool.{Bool, true, false}
 use mathlib.Core.List.{List, [], _∷_}
@@ -17,6 +17,7 @@ use Rattle.meaning.proofs.Answers as answers
 use Rattle.record.specs.declared.Board.{Board}
 use Rattle.record.specs.declared.Record.{Record}
 use Rattle.record.specs.declared.Reply.{Reply}
+use Rattle.times.specs.Times.{timeBytes}
 use Rattle.machine.specs.Replies.{compared}
 use Rattle.machine.specs.Machine.{Machine, machineAtStart, channelOf, onMachine, playOn, saysOn}
 use Rattle.text.specs.Texts.{textLimit, spelledTrace, Readable}
@@ -82,6 +83,7 @@ module _ (b : Board) (ps qs : List Record) (m : Machine) (keeps : (c : Channel) 
     answer = refl;
     result = ap (λ (c : ℕ). resultBytes n t c 0) count-same;
     images = ap (λ (s : Machine). s .images) state-same;
+    times = ap (λ (s : Machine). timeBytes (s .times)) state-same;
   }
 
 -- ---- what an answer shows of rs and of ls
@@ -145,6 +147,7 @@ module _ {text : List ℕ} {x : Buffers} {e e′ : Ended} {b : Board} {rs ls : L
     answer = ap (λ (w : Ended). w .answer) (sym k);
     result = ap (λ (w : Ended). w .buffers .result) (sym k);
     images = ap (λ (w : Ended). w .buffers .images) (sym k);
+    times = ap (λ (w : Ended). w .buffers .times) (sym k);
   }
 
   played-same : fit x ≡ true → ltb textLimit (length text) ≡ false → SameReplay e e′
@@ -155,7 +158,7 @@ module _ {text : List ℕ} {x : Buffers} {e e′ : Ended} {b : Board} {rs ls : L
       (numberOf (z .0)) (stampOf (z .0)) in
       subst₂ SameReplay (sym (z .3 ∙ left-shown b rs back start (z .0) (z .1))) (sym (z .4 ∙ left-shown b ls (a .onward) start (z .0) (z .2))) same
 
-  -- whatever buffers are lent: the same answer, line or stamp, count, bytes and marks
+  -- whatever buffers are lent: the same answer, line or stamp, count, bytes, marks and times
   pub order-of-lines : SameReplay e e′
   order-of-lines =
       split (fit x)

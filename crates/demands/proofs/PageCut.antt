@@ -26,7 +26,7 @@ pageCut-written = is-written plain pageCut plain-ok (omega arith) (omega arith) 
 
 module _ (x : Images) where
   abbrev writing : Machine
-  writing = after (onMachine plain) pageStarted (machineAtStart plain x)
+  writing = after (onMachine plain) (pageStarted 0) (machineAtStart plain x)
 
   pub pageCut-settled : Answered pageCut x 0
   unfolding filter keep All after playOn movedOf flashAfter eepromAfter shown shownAs goesOn
@@ -34,7 +34,7 @@ module _ (x : Images) where
       let last = stamp-passes (onMachine plain) (onL 10 SupplyOff ∷ []) [] 10 (refl, tt) tt refl writing refl
       (one-channel (onMachine plain) L (onL 10 SupplyOff ∷ []) (refl, tt) writing) refl _ (means-end (onMachine plain) _ refl) in (
         _,
-        stamp-passes (onMachine plain) pageStarted (onL 10 SupplyOff ∷ []) 0 (refl, (refl, (refl, (refl, (refl, (refl, tt)))))) (omega arith, tt) refl (machineAtStart plain x) refl
-            (one-channel (onMachine plain) E pageStarted (refl, (refl, (refl, (refl, (refl, (refl, tt)))))) (machineAtStart plain x)) refl _ last,
+        stamp-passes (onMachine plain) (pageStarted 0) (onL 10 SupplyOff ∷ []) 0 (refl, (refl, (refl, (refl, (refl, (refl, tt)))))) (omega arith, tt) refl (machineAtStart plain x) refl
+            (one-channel (onMachine plain) E (pageStarted 0) (refl, (refl, (refl, (refl, (refl, (refl, tt)))))) (machineAtStart plain x)) refl _ last,
         refl,
       )

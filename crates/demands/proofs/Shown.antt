@@ -1,4 +1,4 @@
--- What the call leaves for a readable text, in one form for settled and stops: some of the records, played as they are written, leave these images and these replies.
+-- What the call leaves for a readable text, in one form for settled and stops: some of the records, played as they are written, leave these images, these times and these replies.
 use mathlib.Core.Path.{_≡_, refl, ap₂, _∙_}
 use mathlib.Core.Bool.{true, false}
 use mathlib.Core.List.{List}
@@ -13,6 +13,7 @@ use Rattle.meaning.proofs.Listing.{agreed-lines}
 use Rattle.record.specs.declared.Board.{Board}
 use Rattle.record.specs.declared.Record.{Record}
 use Rattle.record.specs.declared.Reply.{Reply}
+use Rattle.times.specs.Times.{timeBytes}
 use Rattle.machine.specs.Machine.{Machine, machineAtStart, onMachine}
 use Rattle.text.specs.Texts.{textLimit, Readable}
 use Rattle.buffers.specs.Buffers.{Buffers, fit, resultBytes}
@@ -45,7 +46,7 @@ left-shown b rs back m z h =
     let k = means-lines b rs back m z h in
     let ps = recordsOf b z rs in
     shown-is b rs z
-    ∙ ap₂ (λ (s : Machine) (ys : List Reply). endedAs (numberOf z) (record { images = s .images; replies = padded (replyLines ps ys); result = resultBytes (numberOf z) (stampOf z) (countTwos ps ys) 0 })) (k .0) (k .1)
+    ∙ ap₂ (λ (s : Machine) (ys : List Reply). endedAs (numberOf z) (record { images = s .images; times = timeBytes (s .times); replies = padded (replyLines ps ys); result = resultBytes (numberOf z) (stampOf z) (countTwos ps ys) 0 })) (k .0) (k .1)
 
 -- the same of the call
 pub call-left : {text : List ℕ} {x : Buffers} {e : Ended} {b : Board} {rs : List Record} → Replays text x e → fit x ≡ true → ltb textLimit (length text) ≡ false → Readable text b rs →

@@ -30,6 +30,7 @@ use Rattle.demands.proofs.BenchCases.{case11, case12}
 use Rattle.demands.proofs.Readable.{readable-back}
 use Rattle.demands.proofs.Stops.{means-shown, settled-shows}
 use Rattle.demands.proofs.Replies.{each-reply, settled-count}
+use Rattle.demands.proofs.Entries.{entry-bytes}
 use Rattle.demands.proofs.Lent.{erased, erased-fits, erased-flash, erased-eeprom}
 use Rattle.demands.specs.Worked.{pageCut}
 use Rattle.demands.specs.ShutOut.{listing, wrenOff, programOff, sent, programmed, ShutOut}
@@ -58,7 +59,7 @@ module _ (x : Buffers) (h : fit x ≡ true) {e : Ended} where
   unfolding countTwos said playOn saysOn movedOf delivered compared flashAfter eepromAfter
   counts-one = counted 0x01 (omega arith)
 
-  -- case 1 settles; a place that was ff/00 is a5/00 after it, and its last record has the reply bytes 6, 0, 0, 0: the cycle ends
+  -- case 1 settles; a place that was ff/00 is a5/00 after it, its page has the time of `end`, and its last record has the reply bytes 6, 0, 0, 0: the cycle ends
   program-settles : Replays (spelledTrace plain programmed) x e → e .answer ≡ 0
   program-settles = answers programmed programmed-written 0 (programmed-settled (x .images))
 
@@ -68,6 +69,13 @@ module _ (x : Buffers) (h : fit x ≡ true) {e : Ended} where
       ap (λ (i : Images). cellAt (i .flash) 0)
       (settled-shows p h (programmed-written .short) (programmed-written .reads) (program-settles p) programmed (itself (onMachine plain) programmed (readable-back (programmed-written .reads))) .images)
       ∙ programPage-erased (x .images .flash) (keptBytes Chip.Flash) (fit-says x h .kept Chip.Flash) 0 _ (omega arith) 0 (omega arith) k 0xa5 refl
+
+  end-told : Replays (spelledTrace plain programmed) x e → take 5 (e .buffers .times) ≡ 1 ∷ 30 ∷ 0 ∷ 0 ∷ 0 ∷ []
+  unfolding after playOn movedOf
+  end-told p =
+      ap (take 5)
+      (settled-shows p h (programmed-written .short) (programmed-written .reads) (program-settles p) programmed (itself (onMachine plain) programmed (readable-back (programmed-written .reads))) .times)
+      ∙ entry-bytes (after (onMachine plain) programmed (machineAtStart plain (x .images)) .times) Chip.Flash 0 (omega arith)
 
   last-stamp-played : Replays (spelledTrace plain programmed) x e → take 4 (drop 40 (e .buffers .replies)) ≡ 6 ∷ 0 ∷ 0 ∷ 0 ∷ []
   unfolding after playOn saysOn movedOf delivered compared flashAfter eepromAfter
@@ -95,6 +103,7 @@ shut-out = record {
   counts-none = λ x e h. counts-none x h;
   counts-one = λ x e h. counts-one x h;
   doubts-only-the-sent = λ x e h. page-doubtful x h;
+  tells-another-time = λ x e h. end-told x h;
   tells-another-field = typed-wrong-told;
   tells-another-field-first = typed-wrong-first-told;
   some-fit = (erased, erased-fits, erased-flash, erased-eeprom);

@@ -8,13 +8,14 @@ use lib.Dec.{ltb}
 use lib.ListN.{length}
 use Rattle.law.specs.Choice.{split, true-not-false}
 use Rattle.meaning.specs.Meaning as meaning
-use Rattle.meaning.specs.Meaning.{Means}
+use Rattle.meaning.specs.Meaning.{NeverBack, Means}
 use Rattle.meaning.proofs.SomeAnswer.{some-answer}
 use Rattle.record.specs.declared.Board.{Board}
 use Rattle.record.specs.declared.Record.{Record}
 use Rattle.record.specs.declared.Reply.{Reply}
 use Rattle.record.specs.declared.Answer.{Answer}
 use Rattle.record.specs.declared.Answer.the-variants.{BadBuffers, TooLong}
+use Rattle.image.specs.Images.{Images}
 use Rattle.machine.specs.Machine.{Machine, machineAtStart, onMachine}
 use Rattle.text.specs.Texts.{textLimit, Readable, Refused}
 use Rattle.text.proofs.OneReading.{readable-one, refused-one, not-both}
@@ -23,7 +24,11 @@ use Rattle.buffers.specs.Buffers.{Buffers, fit}
 use Rattle.call.specs.Replay.{Ended, refusedAs, shown, Replays}
 use Rattle.demands.specs.Demands.{SomeOutcome}
 use Rattle.demands.proofs.Readable.{readable-back, status-known}
-use Rattle.demands.proofs.Telling.{tell}
+use Rattle.demands.proofs.Telling.{Steady, steady-start, steady-after, tell}
+
+-- demand 3 has an answer for the records from the start, whatever the images
+pub answer-from-start : (b : Board) (rs : List Record) → NeverBack (onMachine b) rs → (x : Images) → (z : meaning.Answer Machine Reply) × Means (onMachine b) rs (machineAtStart b x) z
+answer-from-start b rs back x = some-answer (onMachine b) Steady (steady-after b) (tell b) rs back (machineAtStart b x) (steady-start b x) (status-known b x)
 
 module _ (text : List ℕ) (x : Buffers) where
   unfit-replays : fit x ≡ false → Replays text x (refusedAs BadBuffers 0 0 x)
@@ -70,7 +75,7 @@ module _ (text : List ℕ) (x : Buffers) where
       read-replays =
           ⊎-elim
           (λ r.
-          let z = some-answer (onMachine (r .0)) tell (r .1) (readable-back (r .2)) (machineAtStart (r .0) (x .images)) (status-known (r .0) (x .images)) in
+          let z = answer-from-start (r .0) (r .1) (readable-back (r .2)) (x .images) in
           let e = shown (r .0) (r .1) (z .0) in
           (e, played-replays (r .0) (r .1) (r .2) e (z .0, z .1, refl)))
           (λ r. (refusedAs (r .0) (r .1) (r .2) x, bad-replays (r .0) (r .1) (r .2) (r .3))) (some-reading text)

@@ -28,7 +28,7 @@ use Rattle.demands.specs.Stops.{StopsAt, Shows}
 use Rattle.demands.proofs.Readable.{readable-back, stamps-fit, status-known}
 use Rattle.demands.proofs.Result.{number-one}
 use Rattle.demands.proofs.Ways.{reason-number}
-use Rattle.demands.proofs.Telling.{tell}
+use Rattle.demands.proofs.Telling.{steady-start, tell}
 
 -- ---- what an answer of demand 3 says when it is shown
 reason-one : (n k : Reason) → answerNumber (reasonAnswer n) ≡ answerNumber (reasonAnswer k) → n ≡ k
@@ -53,6 +53,7 @@ shown-shows b n t rs o s v e h q =
     let k : e ≡ shownAs b n t rs (outcome (onMachine b) o s) = q ∙ ap (shownAs b n t rs) (sym h) in
     record {
       images = ap (λ (y : Ended). y .buffers .images) k;
+      times = ap (λ (y : Ended). y .buffers .times) k;
       replies = ap (λ (y : Ended). y .buffers .replies) k;
       result = ap (λ (y : Ended). y .buffers .result) k ∙ ap (λ (a : ℕ). resultBytes a t (countTwos rs (shownAt (onMachine b) rs (outcome (onMachine b) o s))) 0) (sym (ap (λ (y : Ended). y .answer) k));
     }
@@ -136,7 +137,7 @@ module _ {text : List ℕ} {x : Buffers} {e : Ended} {b : Board} {rs : List Reco
       let v = settled-shown b rs e h (answered .0) (answered .2) in
       shown-shows b 0 0 rs o start (v .0) e (answers.settled-shows (onMachine b) rs start (answered .0) (answered .1) (v .0) (v .1) o a) (answered .2 ∙ ap (shown b rs) (v .1))
 
-  -- in both cases any two of these orders end alike in all that the machine is: both chips' states, the lines, the images and every reply
+  -- in both cases any two of these orders end alike in all that the machine is: both chips' states, the lines, the images, the pages' times and every reply
   pub settled-alike : e .answer ≡ 0 → Alike (onMachine b) rs start
   unfolding Alike
   settled-alike h o w a c =
@@ -168,7 +169,7 @@ module _ {text : List ℕ} {x : Buffers} {e : Ended} {b : Board} {rs : List Reco
   unfolding FirstReason
   differ-means-two h =
       let s = stop-answer differ .0 h in
-      let d = two-differ (onMachine b) tell rs (readable-back q) start (s .0) (s .1 .here .1) in
+      let d = two-differ (onMachine b) start (λ o w. tell b o w start (steady-start b (x .images))) rs (readable-back q) (s .0) (s .1 .here .1) in
       (s .0, stops-earliest differ (s .0) .1 (s .1), d .0, d .1, d .2, d .3, d .4)
 
   -- ---- a reason at a stamp is never forgiven by what comes after: the call stops there or before (none-before of Earliest)

@@ -1,19 +1,22 @@
--- Two outcomes of the machine can be told apart: a state and its replies are numbers and lists of numbers.
-use mathlib.Core.Path.{_≡_, refl, sym, ap, ap₂, _∙_}
+-- Two outcomes of the machine that are reached can be told apart: a state and its replies are numbers and lists of numbers, and the times of all pages are told by those of the first ones.
+use mathlib.Core.Path.{_≡_, refl, sym, ap, ap₂, subst, _∙_}
 use mathlib.Core.Bool.{Bool, true, false, Bool·beq}
-use mathlib.Core.Logic.{_⊎_, inl, inr}
+use mathlib.Core.Logic.{_⊎_, inl, inr, ⊎-elim}
 use mathlib.Core.List.{List, [], _∷_}
-use Prim.Native.Nat.{ℕ}
+use Prim.Native.Nat.{ℕ, zero, suc, _+_, _≤_, _<_}
 use native.Mathlib.Omega.{arith}
 use lib.Dec.{eqb}
+use borrow.Author.Tests.{eqb-true, eqb-false, ne-eqb}
 use Rattle.law.specs.declared.Numbers.{Numbers}
-use Rattle.law.specs.Choice.{split}
+use Rattle.law.specs.Choice.{split, lt-or-le}
 use Rattle.law.specs.Deciding.{Decides, decides-true, decides-false, decides-as, eqb-decides, beq-decides}
 use Rattle.law.specs.Words.{All}
-use Rattle.meaning.specs.Meaning.{Channel, Outcome}
+use Rattle.meaning.specs.Meaning.{Channel, Outcome, after, outcome}
 use Rattle.meaning.specs.Channels.{channels}
 use Rattle.meaning.proofs.Channels.{every-channel}
+use Rattle.record.specs.declared.Board.{Board}
 use Rattle.record.specs.declared.Lines.{Lines}
+use Rattle.record.specs.declared.Record.{Record}
 use Rattle.record.specs.declared.Reply.{Reply}
 use Rattle.record.specs.Replies.{replyKind, replyValue, replyMask}
 use Rattle.record.specs.ReplyOf.{replyOf}
@@ -24,9 +27,14 @@ use Rattle.eeprom.specs.declared.Eeprom.{Eeprom}
 use Rattle.eeprom.specs.Same as eeprom-same
 use Rattle.eeprom.proofs.ByNumbers as eeprom-equal
 use Rattle.controls.specs.declared.Controls.{Controls}
+use Rattle.controls.specs.Play.{movedOf}
 use Rattle.image.specs.Image.{Image}
 use Rattle.image.specs.Images.{Images}
-use Rattle.machine.specs.Machine.{Machine}
+use Rattle.times.specs.declared.Pages.{Pages}
+use Rattle.times.specs.declared.Pages.the-variants as pages
+use Rattle.times.specs.Times.{Time, never, written, Times, timedAt}
+use Rattle.machine.specs.Effects.{touchedBy}
+use Rattle.machine.specs.Machine.{Machine, machineAtStart, onMachine, playOn}
 
 -- it can be told whether P holds
 abbrev Tells : Type 0 → Type 0
@@ -108,10 +116,72 @@ images a b =
     same (both (image (a .flash) (b .flash)) (image (a .eeprom) (b .eeprom))) (λ p i. record { flash = p .0 i; eeprom = p .1 i })
     (λ e. (ap (λ (k : Images). k .flash) e, ap (λ (k : Images). k .eeprom) e))
 
-machine : (a b : Machine) → Tells (a ≡ b)
-machine a b =
-    same (both (controls (a .controls) (b .controls)) (images (a .images) (b .images))) (λ p i. record { controls = p .0 i; images = p .1 i })
-    (λ e. (ap (λ (k : Machine). k .controls) e, ap (λ (k : Machine). k .images) e))
+-- ---- the times: every page from some page on has one time, as at the start, so that those up to there decide
+time : (a b : Time) → Tells (a ≡ b)
+time never never = yes refl
+time never (written t) = no (λ e. let n : _≡_ {A = ℕ} 0 1 = cc in omega arith)
+time (written t) never = no (λ e. let n : _≡_ {A = ℕ} 0 1 = cc in omega arith)
+time (written t) (written u) = same (number t u) (ap written) (λ e. cc)
+
+below : (P : ℕ → Type 0) → ((n : ℕ) → Tells (P n)) → (k : ℕ) → Tells ((n : ℕ) → n < k → P n)
+below P tell zero = yes (λ n l. absurd (omega arith))
+below P tell (suc k) =
+    same (both (tell k) (below P tell k))
+    (λ p n l. split (eqb n k) (λ e. subst P (sym (eqb-true n k e)) (p .0)) (λ e. p .1 n (omega (arith, eqb-false n k e))))
+    (λ h. (h k (omega arith), λ n l. h n (omega arith)))
+
+abbrev OneFrom : (ℕ → Time) → Type 0
+OneFrom y = (last : ℕ) × ((n : ℕ) → last ≤ n → y n ≡ y last)
+
+module _ (y z : ℕ → Time) (f : OneFrom y) (g : OneFrom z) where
+  abbrev far : ℕ
+  far = f .0 + g .0
+
+  all-pages : ((n : ℕ) → n < suc far → y n ≡ z n) → (n : ℕ) → y n ≡ z n
+  all-pages h n =
+      ⊎-elim (h n) (λ l. f .1 n (omega arith) ∙ sym (f .1 far (omega arith)) ∙ h far (omega arith) ∙ g .1 far (omega arith) ∙ sym (g .1 n (omega arith))) (lt-or-le n (suc far))
+
+  page-times : Tells (y ≡ z)
+  page-times = same (below (λ n. y n ≡ z n) (λ n. time (y n) (z n)) (suc far)) (λ h i n. all-pages h n i) (λ e n l. ap (λ (w : ℕ → Time). w n) e)
+
+timed : (t : ℕ) (p : Pages) (y : ℕ → Time) → OneFrom y → OneFrom (timedAt t p y)
+timed t pages.None y h = h
+timed t (pages.One k) y h = (
+  h .0 + suc k,
+  λ n l. simp (ne-eqb n k (λ e. omega arith), ne-eqb (h .0 + suc k) k (λ e. omega arith)) (h .1 n (omega arith) ∙ sym (h .1 (h .0 + suc k) (omega arith))),
+)
+timed t pages.All y h = (0, λ n l. refl)
+
+-- ---- a machine of which this is so: at the start, and after any records
+pub record Steady (m : Machine) : Type 0 where
+  pub flash : OneFrom (m .times .flash)
+  pub eeprom : OneFrom (m .times .eeprom)
+
+pub steady-start : (b : Board) (x : Images) → Steady (machineAtStart b x)
+steady-start b x = record { flash = (0, λ n l. refl); eeprom = (0, λ n l. refl) }
+
+module _ (b : Board) where
+  steady-play : (m : Machine) (r : Record) → Steady m → Steady (playOn b m r)
+  unfolding playOn
+  steady-play m r s =
+      let x = touchedBy b (m .controls) (r .event) (movedOf b (m .controls) r .reply) in
+      record { flash = timed (r .stamp) (x .flash) (m .times .flash) (s .flash); eeprom = timed (r .stamp) (x .eeprom) (m .times .eeprom) (s .eeprom) }
+
+  pub steady-after : (o : List Record) (m : Machine) → Steady m → Steady (after (onMachine b) o m)
+  unfolding after
+  steady-after [] m s = s
+  steady-after (r ∷ o) m s = steady-after o (playOn b m r) (steady-play m r s)
+
+times : (a b : Machine) → Steady a → Steady b → Tells (a .times ≡ b .times)
+times a b s z =
+    same (both (page-times _ _ (s .flash) (z .flash)) (page-times _ _ (s .eeprom) (z .eeprom))) (λ p i. record { flash = p .0 i; eeprom = p .1 i })
+    (λ e. (ap (λ (k : Times). k .flash) e, ap (λ (k : Times). k .eeprom) e))
+
+machine : (a b : Machine) → Steady a → Steady b → Tells (a ≡ b)
+machine a b s z =
+    same (both (controls (a .controls) (b .controls)) (both (images (a .images) (b .images)) (times a b s z)))
+    (λ p i. record { controls = p .0 i; images = p .1 .0 i; times = p .1 .1 i })
+    (λ e. (ap (λ (k : Machine). k .controls) e, (ap (λ (k : Machine). k .images) e, ap (λ (k : Machine). k .times) e)))
 
 -- ---- a reply, by its kind, its value and its mask
 reply : (a b : Reply) → Tells (a ≡ b)
@@ -135,11 +205,14 @@ module _ (P : Channel → Type 0) where
   each : ((c : Channel) → Tells (P c)) → Tells ((c : Channel) → P c)
   each t = same (tell-each t channels) (every-channel P) (λ h. for-each h channels)
 
-outcomes : (a b : Outcome Machine Reply) → Tells (a ≡ b)
-outcomes a b =
-    same (both (machine (a .state) (b .state)) (each (λ c. a .replies c ≡ b .replies c) (λ c. list reply (a .replies c) (b .replies c))))
+outcomes : (a b : Outcome Machine Reply) → Steady (a .state) → Steady (b .state) → Tells (a ≡ b)
+outcomes a b s z =
+    same (both (machine (a .state) (b .state) s z) (each (λ c. a .replies c ≡ b .replies c) (λ c. list reply (a .replies c) (b .replies c))))
     (λ p i. record { state = p .0 i; replies = λ c. p .1 c i })
     (λ e. (ap (λ (k : Outcome Machine Reply). k .state) e, λ c. ap (λ (k : Outcome Machine Reply). k .replies c) e))
 
-pub tell : (v w : Outcome Machine Reply) → (v ≡ w) ⊎ (v ≡ w → ⊥)
-tell v w = let t = outcomes v w in split (t .0) (λ e. inl (t .1 .holds e)) (λ e. inr (t .1 .fails e))
+-- how two orders end
+pub tell : (b : Board) (o q : List Record) (m : Machine) → Steady m → (outcome (onMachine b) o m ≡ outcome (onMachine b) q m) ⊎ (outcome (onMachine b) o m ≡ outcome (onMachine b) q m → ⊥)
+tell b o q m s =
+    let t = outcomes (outcome (onMachine b) o m) (outcome (onMachine b) q m) (steady-after b o m s) (steady-after b q m s) in
+    split (t .0) (λ e. inl (t .1 .holds e)) (λ e. inr (t .1 .fails e))

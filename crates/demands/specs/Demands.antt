@@ -45,4 +45,4 @@ SomeOutcome = (text : List ℕ) (x : Buffers) → (e : Ended) × Replays text x 
 abbrev pub BenchSheet : Type 0
 BenchSheet = (x : Images) → Kept x → AllHold sheet x
 
--- 13, the wrong programs of 'What the proofs must leave no room for', is `ShutOut`; 14, worked cases of rules that the sheet does not touch, `WorkedCases`; 20, what the verdict rests on, `VerdictByControls` and `WhateverWasHeld`
+-- 13, the wrong programs of 'What the proofs must leave no room for', is `ShutOut`; 14, worked cases of rules that the sheet does not touch, `WorkedCases`; 20, what the verdict rests on, `VerdictByControls` and `WhateverWasHeld`; 21 and 22, what the table of times tells, `EntryTells` and `NeverAsLent`; 23, that the times add no difference of their own, `NoOwnDifference` (enough)

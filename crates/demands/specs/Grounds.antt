@@ -1,4 +1,4 @@
--- Believed: Demands 1 and 2: each answer has its exact ground, and a refusal leaves all else untouched (document 01, 'Replies and stopping', the table; document 02, request 2/12).
+-- Believed: Demands 1 and 2: each answer has its exact ground, and a refusal leaves all else untouched (document 01, 'Replies and stopping', the table; document 02, requests 1/12 and 2/12).
 -- Said of a text, the buffers x as lent, and any outcome e that the promise of the exported call admits.
 use mathlib.Core.Path.{_≡_}
 use mathlib.Core.Bool.{true, false}
@@ -13,10 +13,11 @@ use Rattle.record.specs.declared.Board.{Board}
 use Rattle.record.specs.declared.Record.{Record}
 use Rattle.record.specs.Answers.{answerNumber}
 use Rattle.record.specs.Lengths.{resultLength}
+use Rattle.record.specs.Word.{word}
 use Rattle.field.specs.Decimal.{largest}
 use Rattle.machine.specs.Machine.{machineAtStart, onMachine}
 use Rattle.text.specs.Texts.{textLimit, Readable, Refused}
-use Rattle.buffers.specs.Buffers.{Buffers, fit, word, resultBytes}
+use Rattle.buffers.specs.Buffers.{Buffers, fit, resultBytes}
 use Rattle.call.specs.Replay.{Ended, endedAs, refusedAs, reasonAnswer}
 
 -- the refusals that name a line
@@ -53,9 +54,10 @@ pub record Grounds (text : List ℕ) (x : Buffers) (e : Ended) : Type 0 where
   -- there is no other answer
   pub no-other : e .answer ≤ 8
 
--- the images with their masks and the replies are as they were lent
+-- the images with their masks, the table of times and the replies are as they were lent
 pub record Untouched (x : Buffers) (e : Ended) : Type 0 where
   pub images : e .buffers .images ≡ x .images
+  pub times : e .buffers .times ≡ x .times
   pub replies : e .buffers .replies ≡ x .replies
 
 pub record Refusals (x : Buffers) (e : Ended) : Type 0 where

@@ -8,4 +8,5 @@ pub mod Doubt
 pub mod Lines
 pub mod ShutOut
 pub mod Verdict
+pub mod Times
 pub mod Demands

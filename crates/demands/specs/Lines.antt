@@ -1,4 +1,4 @@
--- Believed: Demand 10: writing the lines of a trace in another allowed order changes no answer, no stamp, no count, no byte, no mark and no record's reply.
+-- Believed: Demand 10: writing the lines of a trace in another allowed order changes no answer, no stamp, no count, no byte, no mark, no page's time and no record's reply.
 use mathlib.Core.Path.{_≡_}
 use mathlib.Core.List.{List, [], _∷_}
 use Prim.Native.Nat.{ℕ}
@@ -11,6 +11,7 @@ use Rattle.record.specs.declared.Record.{Record}
 use Rattle.record.specs.declared.Reply.{Reply}
 use Rattle.record.specs.declared.Answer.the-variants.{Settled}
 use Rattle.record.specs.Answers.{answerNumber}
+use Rattle.times.specs.Times.{timeBytes}
 use Rattle.machine.specs.Machine.{Machine, machineAtStart, channelOf, onMachine}
 use Rattle.text.specs.Texts.{spelledTrace, Readable}
 use Rattle.buffers.specs.Buffers.{Buffers, resultBytes}
@@ -36,6 +37,7 @@ leftBy b n t ps m =
     endedAs n
     (record {
       images = after (onMachine b) ps m .images;
+      times = timeBytes (after (onMachine b) ps m .times);
       replies = padded (replyLines ps (said (onMachine b) ps m));
       result = resultBytes n t (countTwos ps (said (onMachine b) ps m)) 0;
     })
@@ -56,17 +58,18 @@ channelIn a = channelOf (a .0 .event)
 abbrev pub repliedOf : Channel → Board → List Record → Machine → List Replied
 repliedOf c b ps m = filter (λ (a : Replied). same c (channelIn a)) (paired ps (said (onMachine b) ps m))
 
--- two calls say the same: the answer, the result (the answer again, the line or stamp, the count, the field), all bytes and all marks
+-- two calls say the same: the answer, the result (the answer again, the line or stamp, the count, the field), all bytes and all marks, and the time of every page
 pub record SameReplay (e e′ : Ended) : Type 0 where
   pub answer : e′ .answer ≡ e .answer
   pub result : e′ .buffers .result ≡ e .buffers .result
   pub images : e′ .buffers .images ≡ e .buffers .images
+  pub times : e′ .buffers .times ≡ e .buffers .times
 
 -- e is the outcome for a text that is the spelling of b and rs, e′ for the lines ls, which are rs in another allowed order
 pub record Reordered (text : List ℕ) (x : Buffers) (b : Board) (rs ls : List Record) (e e′ : Ended) : Type 0 where
   -- the reordered lines are a readable text
   pub lines-readable : Readable (spelledTrace b ls) b ls
-  -- whatever buffers are lent: the same answer, line or stamp, count, field, bytes and marks
+  -- whatever buffers are lent: the same answer, line or stamp, count, field, bytes, marks and times
   pub order-of-lines : SameReplay e e′
   -- the demand admits one answer z for both; and each record's reply follows it: of the records that are shown, played as they are written, each channel has the same records with the same replies
   pub replies-follow : Taken text x b rs →

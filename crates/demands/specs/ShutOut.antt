@@ -1,4 +1,4 @@
--- Believed: Demand 13: wrong programs are shut out (document 01, 'What the proofs must leave no room for'; requests 2/12 and 3/12). Each claim names one text, which such a program would answer otherwise, and speaks of any outcome e that the promise of the exported call admits for it on any buffers that fit.
+-- Believed: Demand 13: wrong programs are shut out (document 01, 'What the proofs must leave no room for'; requests 1/12, 2/12 and 3/12). Each claim names one text, which such a program would answer otherwise, and speaks of any outcome e that the promise of the exported call admits for it on any buffers that fit.
 use mathlib.Core.Path.{_≡_}
 use mathlib.Core.Bool.{true}
 use mathlib.Core.List.{List, [], _∷_, _++_}
@@ -70,6 +70,8 @@ pub record ShutOut : Type 0 where
   pub counts-one : Every (listing 0x01) (λ x e. e .buffers .result ≡ resultBytes 0 0 1 0)
   -- one that puts in doubt only the bytes sent (request 3/12): where the write of one byte to 007f is cut, 0040, which nothing was sent to, is 00/ff
   pub doubts-only-the-sent : Every pageCut (λ x e. cellAt (e .buffers .images .eeprom) 0x0040 ≡ doubtfulCell)
+  -- one that leaves the table of times as it was lent, or tells the stamp of `des`, 20 (request 1/12): the entry of page 0, the table's first, is 1 and the stamp of `end`, 30
+  pub tells-another-time : Every programmed (λ x e. take 5 (e .buffers .times) ≡ 1 ∷ 30 ∷ 0 ∷ 0 ∷ 0 ∷ [])
   -- one that tells no field, always the same one, or the last one there where one or the LF is missing (request 2/12): each of these lines, after the board's, is answered 3, line 2, no count, and its own number
   pub tells-another-field : All (λ (z : List ℕ × ℕ). EveryAfter (z .0) (λ x e. e .buffers .result ≡ resultBytes 3 2 0 (z .1))) typedWrong
   -- and of the first line: each of these texts is answered 3, line 1, no count, and its own number

@@ -9,6 +9,7 @@ use Rattle.record.specs.declared.Board.{Board}
 use Rattle.record.specs.declared.Record.{Record}
 use Rattle.record.specs.Answers.{answerNumber}
 use Rattle.field.specs.Decimal.{largest}
+use Rattle.times.specs.Times.{timeBytes}
 use Rattle.machine.specs.Machine.{Machine, machineAtStart, onMachine}
 use Rattle.buffers.specs.Buffers.{Buffers, resultBytes}
 use Rattle.call.specs.Replay.{Ended, replyLines, countTwos, padded, reasonAnswer}
@@ -20,9 +21,10 @@ pub record StopsAt (e : Ended) (n : Reason) (t : ℕ) : Type 0 where
   pub count : ℕ
   pub result : e .buffers .result ≡ resultBytes (answerNumber (reasonAnswer n)) t count 0
 
--- The buffers hold how the order o of the records rs, played from s, ends: both images with their masks; for each record of rs, in the order of the lines, the four bytes of the reply that it has in o, and 0 behind; and the answer, the number t, how many of these replies disagree, and no field.
+-- The buffers hold how the order o of the records rs, played from s, ends: both images with their masks; the table of the pages' times; for each record of rs, in the order of the lines, the four bytes of the reply that it has in o, and 0 behind; and the answer, the number t, how many of these replies disagree, and no field.
 pub record Shows (b : Board) (t : ℕ) (rs o : List Record) (s : Machine) (e : Ended) : Type 0 where
   pub images : e .buffers .images ≡ after (onMachine b) o s .images
+  pub times : e .buffers .times ≡ timeBytes (after (onMachine b) o s .times)
   pub replies : e .buffers .replies ≡ padded (replyLines rs (shownAt (onMachine b) rs (outcome (onMachine b) o s)))
   pub result : e .buffers .result ≡ resultBytes (e .answer) t (countTwos rs (shownAt (onMachine b) rs (outcome (onMachine b) o s))) 0
 
@@ -38,7 +40,7 @@ module _ (x : Buffers) (e : Ended) (b : Board) (rs : List Record) where
     -- 4. what it shows is how every allowed order ends, of all records or of those before the stop's stamp
     pub settled-shows : e .answer ≡ 0 → (o : List Record) → Allowed (onMachine b) rs o → Shows b 0 rs o start e
     pub stop-shows : (n : Reason) (t : ℕ) → StopsAt e n t → (o : List Record) → Allowed (onMachine b) (before (onMachine b) t rs) o → Shows b t (before (onMachine b) t rs) o start e
-    -- and any two of these orders end alike in all that the machine is: both chips' states, the lines, the images and every reply
+    -- and any two of these orders end alike in all that the machine is: both chips' states, the lines, the images, the pages' times and every reply
     pub settled-alike : e .answer ≡ 0 → Alike (onMachine b) rs start
     pub stop-alike : (n : Reason) (t : ℕ) → StopsAt e n t → Alike (onMachine b) (before (onMachine b) t rs) start
     -- 5. a reason at a stamp u is never forgiven by what comes after: the call stops there or before; two orders that differ by u are such a reason

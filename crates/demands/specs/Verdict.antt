@@ -1,4 +1,4 @@
--- Believed: What the verdict rests on, of a text that is taken: the controls alone. Where the replay stops and why, and whether it settles, no image is asked, and no rule of what a cycle makes of one, whole or cut.
+-- Believed: What the verdict rests on, of a text that is taken: the controls alone. Where the replay stops and why, and whether it settles, no image and no page's time is asked, and no rule of what a cycle makes of them, whole or cut.
 use mathlib.Core.Path.{_≡_}
 use mathlib.Core.Logic.{_↔_}
 use mathlib.Core.List.{List}
@@ -22,7 +22,7 @@ pub record ByControls (e : Ended) (b : Board) (rs : List Record) : Type 0 where
 abbrev pub VerdictByControls : Type 0
 VerdictByControls = (text : List ℕ) (x : Buffers) (e : Ended) (b : Board) (rs : List Record) → Replays text x e → Taken text x b rs → ByControls e b rs
 
--- and a text has one verdict, whatever the images held: it stops at the same stamp for the same reason, or settles
+-- and a text has one verdict, whatever the images and the table held: it stops at the same stamp for the same reason, or settles
 pub record SameVerdict (e e′ : Ended) : Type 0 where
   pub stops : (n : Reason) (t : ℕ) → StopsAt e n t ↔ StopsAt e′ n t
   pub settles : (e .answer ≡ 0) ↔ (e′ .answer ≡ 0)

@@ -8,6 +8,7 @@ ghost use Rattle.text.specs.Texts.{textLimit};
 ghost use Rattle.image.specs.Images.{imagesOf, perChip};
 ghost use Rattle.image.specs.View.{viewPlace, viewLength};
 ghost use Rattle.record.specs.Lengths.{repliesLength, resultLength};
+ghost use Rattle.times.specs.Times.{timesLength};
 ghost use Rattle.buffers.specs.Buffers.{buffersOf, resultAfter};
 ghost use Rattle.record.specs.Answers.{answerNumber};
 ghost use Rattle.call.specs.Play.{twos, replyLine};
@@ -67,11 +68,12 @@ fn play_all(
     flash_mask: &mut [u8],
     eeprom: &mut [u8],
     eeprom_mask: &mut [u8],
+    times: &mut [u8],
     replies: &mut [u8],
 ) -> Done
     requires { ⌜ (many ≤ mostInAll) × (count ≤ 500000) × (number ≤ 500000) ⌝ }
-    ensures { λ r. ⌜ deskOf (r .controls) (imagesOf (now (flash .exit)) (now («flash_mask» .exit)) (now (eeprom .exit)) (now («eeprom_mask» .exit))) (now (replies .exit)) (r .number) (r .count)
-        ≡ runDesk board (take many records) (deskOf controls (imagesOf (now (flash .entry)) (now («flash_mask» .entry)) (now (eeprom .entry)) (now («eeprom_mask» .entry))) (now (replies .entry)) number count) ⌝ }
+    ensures { λ r. ⌜ deskOf (r .controls) (imagesOf (now (flash .exit)) (now («flash_mask» .exit)) (now (eeprom .exit)) (now («eeprom_mask» .exit))) (now (times .exit)) (now (replies .exit)) (r .number) (r .count)
+        ≡ runDesk board (take many records) (deskOf controls (imagesOf (now (flash .entry)) (now («flash_mask» .entry)) (now (eeprom .entry)) (now («eeprom_mask» .entry))) (now (times .entry)) (now (replies .entry)) number count) ⌝ }
     ensures { λ r. ⌜ (r .number ≤ number + mostInAll) × (r .count ≤ count + mostInAll) ⌝ }
 {
     let mut cur = controls;
@@ -80,6 +82,8 @@ fn play_all(
     while k < many {
         let rec = records[k];
         let played = machine::play(board, cur, rec, flash, flash_mask, eeprom, eeprom_mask);
+        let touched = played.touched;
+        times::put_times(times, rec.stamp, touched);
         let reply = played.reply;
         c += put_compared(rec, number + k, reply, replies);
         cur = played.controls;
@@ -141,11 +145,12 @@ fn run(
     flash_mask: &mut [u8],
     eeprom: &mut [u8],
     eeprom_mask: &mut [u8],
+    times: &mut [u8],
     replies: &mut [u8],
 ) -> End
     requires { ⌜ length (now text) ≤ textLimit ⌝ }
-    ensures { λ r. ⌜ Runs (now (text .entry)) first board (imagesOf (now (flash .entry)) (now («flash_mask» .entry)) (now (eeprom .entry)) (now («eeprom_mask» .entry))) (now (replies .entry))
-        (endedWith (r .answer) (r .stamp) (r .count) (imagesOf (now (flash .exit)) (now («flash_mask» .exit)) (now (eeprom .exit)) (now («eeprom_mask» .exit))) (now (replies .exit))) ⌝ }
+    ensures { λ r. ⌜ Runs (now (text .entry)) first board (imagesOf (now (flash .entry)) (now («flash_mask» .entry)) (now (eeprom .entry)) (now («eeprom_mask» .entry))) (now (times .entry)) (now (replies .entry))
+        (endedWith (r .answer) (r .stamp) (r .count) (imagesOf (now (flash .exit)) (now («flash_mask» .exit)) (now (eeprom .exit)) (now («eeprom_mask» .exit))) (now (times .exit)) (now (replies .exit))) ⌝ }
 {
     let mut cur = Controls::start(board);
     let mut place = first;
@@ -165,6 +170,8 @@ fn run(
         if j.count == 1 {
             let alone = records[0];
             let played = machine::play(board, cur, alone, flash, flash_mask, eeprom, eeprom_mask);
+            let touched = played.touched;
+            times::put_times(times, alone.stamp, touched);
             let reply = played.reply;
             count += put_compared(alone, number, reply, replies);
             cur = played.controls;
@@ -184,6 +191,7 @@ fn run(
             flash_mask,
             eeprom,
             eeprom_mask,
+            times,
             replies,
         );
         cur = done.controls;
@@ -216,14 +224,16 @@ fn replay(
     flash_mask: &mut [u8],
     eeprom: &mut [u8],
     eeprom_mask: &mut [u8],
+    times: &mut [u8],
     replies: &mut [u8],
     result: &mut [u8],
 ) -> u32
-    requires { ⌜ (length (now text) ≤ textLimit) × (length (now replies) ≡ repliesLength) × (length (now result) ≡ resultLength) ⌝ }
-    ensures { λ r. ⌜ Runs (now (text .entry)) first board (imagesOf (now (flash .entry)) (now («flash_mask» .entry)) (now (eeprom .entry)) (now («eeprom_mask» .entry))) (replicate repliesLength 0)
-        (endedAs r (buffersOf (now (flash .exit)) (now («flash_mask» .exit)) (now (eeprom .exit)) (now («eeprom_mask» .exit)) (now (replies .exit)) (now (result .exit)))) ⌝ }
+    requires { ⌜ (length (now text) ≤ textLimit) × (length (now times) ≡ timesLength) × (length (now replies) ≡ repliesLength) × (length (now result) ≡ resultLength) ⌝ }
+    ensures { λ r. ⌜ Runs (now (text .entry)) first board (imagesOf (now (flash .entry)) (now («flash_mask» .entry)) (now (eeprom .entry)) (now («eeprom_mask» .entry))) (replicate timesLength 0) (replicate repliesLength 0)
+        (endedAs r (buffersOf (now (flash .exit)) (now («flash_mask» .exit)) (now (eeprom .exit)) (now («eeprom_mask» .exit)) (now (times .exit)) (now (replies .exit)) (now (result .exit)))) ⌝ }
 {
-    buffers::clear_replies(replies);
+    buffers::clear_all(times);
+    buffers::clear_all(replies);
     let end = run(
         text,
         first,
@@ -232,6 +242,7 @@ fn replay(
         flash_mask,
         eeprom,
         eeprom_mask,
+        times,
         replies,
     );
     let answer = end.answer;
@@ -241,7 +252,7 @@ fn replay(
     number
 }
 
-// The call: document 01's table of answers 0 to 8, on the caller's own buffers; a 3 with its field (document 02, request 2/12).
+// The call: document 01's table of answers 0 to 8, on the caller's own buffers; with the pages' times, and a 3 with its field (document 02, requests 1/12 and 2/12).
 #[no_mangle]
 pub extern "C" fn hazelcrook_replay(
     text: &[u8],
@@ -249,14 +260,23 @@ pub extern "C" fn hazelcrook_replay(
     flash_mask: &mut [u8],
     eeprom: &mut [u8],
     eeprom_mask: &mut [u8],
+    times: &mut [u8],
     replies: &mut [u8],
     result: &mut [u8],
 ) -> u32
     ensures { λ r. ⌜ Replays (now (text .entry))
-        (buffersOf (now (flash .entry)) (now («flash_mask» .entry)) (now (eeprom .entry)) (now («eeprom_mask» .entry)) (now (replies .entry)) (now (result .entry)))
-        (endedAs r (buffersOf (now (flash .exit)) (now («flash_mask» .exit)) (now (eeprom .exit)) (now («eeprom_mask» .exit)) (now (replies .exit)) (now (result .exit)))) ⌝ }
+        (buffersOf (now (flash .entry)) (now («flash_mask» .entry)) (now (eeprom .entry)) (now («eeprom_mask» .entry)) (now (times .entry)) (now (replies .entry)) (now (result .entry)))
+        (endedAs r (buffersOf (now (flash .exit)) (now («flash_mask» .exit)) (now (eeprom .exit)) (now («eeprom_mask» .exit)) (now (times .exit)) (now (replies .exit)) (now (result .exit)))) ⌝ }
 {
-    if !buffers::fits_all(flash, flash_mask, eeprom, eeprom_mask, replies, result) {
+    if !buffers::fits_all(
+        flash,
+        flash_mask,
+        eeprom,
+        eeprom_mask,
+        times,
+        replies,
+        result,
+    ) {
         return refuse(result, Answer::BadBuffers, 0, 0);
     }
     if text::too_long(text) {
@@ -272,6 +292,7 @@ pub extern "C" fn hazelcrook_replay(
             flash_mask,
             eeprom,
             eeprom_mask,
+            times,
             replies,
             result,
         ),

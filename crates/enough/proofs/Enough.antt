@@ -1,7 +1,7 @@
 -- What `judge` finds of a stamp's records on the controls is the reason that demand 3 has at that stamp.
 use mathlib.Core.Path.{_≡_, refl, sym, ap, subst, _∙_}
 use mathlib.Core.List.{List, [], _∷_, _++_, append-nil}
-use Prim.Native.Nat.{ℕ, _+_, _≤_, _<_}
+use Prim.Native.Nat.{ℕ, _≤_, _<_}
 use native.Mathlib.Omega.{arith}
 use lib.ListN.{length, take}
 use lib.Seq.{take-all}
@@ -27,6 +27,7 @@ use Rattle.orders.specs.Stamp.{played}
 use Rattle.orders.specs.Verdicts.{heldOf, TooMany, Few, BusesAgree, lastOf}
 use Rattle.machine.specs.Machine.{Machine, playOn, onMachine}
 use Rattle.enough.specs.Enough.{Good, HoldsMost, Holds, ControlsDecide, Decided}
+use Rattle.enough.proofs.AtStamp.{atStamp, alike-at}
 use Rattle.enough.proofs.OneChip.{chip-good, chip-alike, alike-chip}
 use Rattle.enough.proofs.Whole.{seen-all, flash-chip, eeprom-chip, quiet}
 
@@ -38,8 +39,8 @@ module _ (b : Board) where
   pub good-play : (m : Machine) (r : Record) → Good (m .controls) → Good (playOn b m r .controls)
   unfolding playOn
   good-play m r g = record {
-    flash = chip-good (flash-chip b) (m .controls) r (g .flash);
-    eeprom = chip-good (eeprom-chip b) (m .controls) r (g .eeprom);
+    flash = chip-good (flash-chip b (r .stamp)) (m .controls) r (g .flash);
+    eeprom = chip-good (eeprom-chip b (r .stamp)) (m .controls) r (g .eeprom);
   }
 
   pub good-after : (o : List Record) (m : Machine) → Good (m .controls) → Good (after (onMachine b) o m .controls)
@@ -51,14 +52,16 @@ module _ (b : Board) where
   module _ (p : List Record) (m : Machine) (good : Good (m .controls)) where
     pub controls-decide : ControlsDecide b p m
     unfolding Alike All
-    controls-decide a o q x y =
-        let flash = chip-alike (flash-chip b) p m (good .flash) (a F refl) o q x y in
-        let eeprom = chip-alike (eeprom-chip b) p m (good .eeprom) (a E refl) o q x y in
-        same-outcome _ _ (seen-all _ _ (flash .0) (eeprom .0)) (flash .1, (eeprom .1, (lines-agree (onMachine b) (quiet b) p m o q x y, tt)))
+    controls-decide t hp a =
+        alike-at b t p hp m .1
+        (λ o q x y.
+        let flash = chip-alike (flash-chip b t) p m (good .flash) (a F refl) o q x y in
+        let eeprom = chip-alike (eeprom-chip b t) p m (good .eeprom) (a E refl) o q x y in
+        same-outcome _ _ (seen-all _ _ (flash .0) (eeprom .0)) (flash .1, (eeprom .1, (lines-agree (atStamp b t) (quiet b) p m o q x y, tt))))
 
     pub decided : Decided b p m
-    decided t hp h F n = alike-chip (flash-chip b) p m (good .flash) t hp h
-    decided t hp h E n = alike-chip (eeprom-chip b) p m (good .eeprom) t hp h
+    decided t hp h F n = alike-chip (flash-chip b t) p m (good .flash) hp (alike-at b t p hp m .0 h)
+    decided t hp h E n = alike-chip (eeprom-chip b t) p m (good .eeprom) hp (alike-at b t p hp m .0 h)
     decided t hp h L n = absurd (true-not-false n)
 
   -- ---- the controls after a list of records
@@ -117,7 +120,7 @@ module _ (b : Board) (h : Held) (p rest : List Record) (t : ℕ) (held : Holds b
     held-is c = holds-all _ _ _ _ (held c) (f c)
 
     pub agree-alike : BusesAgree b (heldOf h) (m .controls) → Alike (onMachine b) p m
-    agree-alike a = controls-decide b p m good (subst (λ (rs : Channel → List Record). BusesAgree b rs (m .controls)) (λ i c. held-is c i) a)
+    agree-alike a = controls-decide b p m good t hp (subst (λ (rs : Channel → List Record). BusesAgree b rs (m .controls)) (λ i c. held-is c i) a)
 
     pub alike-agree : Alike (onMachine b) p m → BusesAgree b (heldOf h) (m .controls)
     alike-agree a = subst (λ (rs : Channel → List Record). BusesAgree b rs (m .controls)) (λ i c. sym (held-is c) i) (decided b p m good t hp a)

@@ -20,11 +20,11 @@ pub record Good (c : Controls) : Type 0 where
   pub flash : flash-good.Good (flashSide c)
   pub eeprom : eeprom-good.Good (eepromSide c)
 
--- where each bus's orders with the lines agree on the controls, all allowed orders of the records end alike on the machine
+-- of the records of one stamp: where each bus's orders with the lines agree on the controls, all allowed orders end alike on the machine
 abbrev pub ControlsDecide : Board → List Record → Machine → Type 0
-ControlsDecide b p m = BusesAgree b (λ c. of (onMachine b) c p) (m .controls) → Alike (onMachine b) p m
+ControlsDecide b p m = (t : ℕ) → All (λ (r : Record). r .stamp ≡ t) p → BusesAgree b (λ c. of (onMachine b) c p) (m .controls) → Alike (onMachine b) p m
 
--- and of the records of one stamp only there
+-- and only there
 abbrev pub Decided : Board → List Record → Machine → Type 0
 Decided b p m = (t : ℕ) → All (λ (r : Record). r .stamp ≡ t) p → Alike (onMachine b) p m → BusesAgree b (λ c. of (onMachine b) c p) (m .controls)
 

@@ -1,2 +1,3 @@
--- What is claimed of trying the controls alone.
+-- What is claimed of trying the controls alone, and of the pages' times.
 pub mod Enough
+pub mod NoOwn

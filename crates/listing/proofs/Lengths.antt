@@ -8,6 +8,7 @@ use lib.Dec.{eqb}
 use lib.ListN.{length, length-append}
 use borrow.Author.Tests.{eqb-true, leb-true}
 use Rattle.law.specs.Choice.{of-both, split}
+use Rattle.record.specs.declared.Chip.{Chip}
 use Rattle.record.specs.declared.Reply.{Reply}
 use Rattle.record.specs.declared.Reply.the-variants.{NotPlayed, Silent, Byte, Ack, NoAck, Starts, Ends, NoCycle}
 use Rattle.record.specs.declared.Match.{Match}
@@ -21,6 +22,7 @@ use Rattle.field.proofs.DecimalLaws.{decimal-digit}
 use Rattle.field.proofs.SpellingLaws.{Holds, holds-all, digits-count}
 use Rattle.listing.specs.Bytes.{isRefusal}
 use Rattle.listing.specs.Lines.{heading, byteText, replyText, matchText, recordLine, settledLine, stopLine, lastLine, refusedLine}
+use Rattle.listing.specs.Pages.{pagesHeading, chipText, pageLine}
 
 -- the heading has 23 bytes
 pub heading-length : length heading ≡ 23
@@ -71,6 +73,19 @@ settled-length a small = simp length-append (omega (arith, digits-count a small)
 pub last-length : (answer stamp count : ℕ) → answer ≤ largest → stamp ≤ largest → count ≤ largest → length (lastLine answer stamp count) ≤ room
 unfolding lastLine
 last-length a b c small little few = of-both (λ (w : List ℕ). length w ≤ room) (eqb a 0) (settledLine c) (stopLine a b) (settled-length c few) (stop-length a b small little)
+
+-- ---- the pages' listing
+pub pages-heading-length : length pagesHeading ≡ 16
+unfolding pagesHeading
+pages-heading-length = refl
+
+chip-length : (chip : Chip) → length (chipText chip) ≤ 6
+chip-length Chip.Flash = omega arith
+chip-length Chip.Eeprom = omega arith
+
+pub page-length : (chip : Chip) (n stamp : ℕ) → n ≤ largest → stamp ≤ largest → length (pageLine chip n stamp) ≤ room
+unfolding pageLine
+page-length chip n stamp small little = simp length-append (omega (arith, chip-length chip, digits-count n small, digits-count stamp little))
 
 -- a line put together from nothing holds just its bytes
 pub holds : (w : List ℕ) {s : Spelling} → s ≡ putAll noBytes w → length w ≤ room → Holds s w

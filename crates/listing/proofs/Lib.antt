@@ -5,4 +5,5 @@ pub mod Lengths
 pub mod Which
 pub mod Walk
 pub mod Whole
+pub mod PagesWalk
 pub mod Theorems

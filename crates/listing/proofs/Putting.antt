@@ -2,6 +2,7 @@
 use Prim.Native.Nat.{ℕ}
 use mathlib.Core.Path.{_≡_, ap, _∙_}
 use mathlib.Core.List.{List, [], _∷_, _++_}
+use Rattle.record.specs.declared.Chip.{Chip}
 use Rattle.record.specs.declared.Reply.{Reply}
 use Rattle.record.specs.declared.Match.{Match}
 use Rattle.field.specs.declared.spelling.Spelling.{Spelling}
@@ -10,6 +11,7 @@ use Rattle.field.specs.Hex.{hexField}
 use Rattle.field.specs.Spelling.{noBytes, putAll}
 use Rattle.line.proofs.Put.{put-on}
 use Rattle.listing.specs.Lines.{heading, byteText, replyText, matchText, recordLine, settledLine, stopLine, refusedLine}
+use Rattle.listing.specs.Pages.{pagesHeading, chipText, pageLine}
 
 -- three pieces
 pub put-three : (s : Spelling) (a b c : List ℕ) {s1 s2 r : Spelling} → s1 ≡ putAll s a → s2 ≡ putAll s1 b → r ≡ putAll s2 c → r ≡ putAll s (a ++ (b ++ c))
@@ -52,3 +54,14 @@ pub put-refused : (a b c : ℕ) {s s1 s2 s3 s4 s5 s6 r : Spelling} → s ≡ noB
 unfolding refusedLine
 put-refused a b c {s} {s1} {s2} {s3} {s4} n e1 e2 e3 e4 e5 e6 e7 =
     from _ n (put-on s (114 ∷ 101 ∷ 102 ∷ 117 ∷ 115 ∷ 101 ∷ 100 ∷ 9 ∷ []) _ e1 (put-on s1 (decimal a) _ e2 (put-on s2 (9 ∷ []) _ e3 (put-on s3 (decimal b) _ e4 (put-three s4 (9 ∷ []) (decimal c) (10 ∷ []) e5 e6 e7)))))
+
+pub put-pages-heading : {s r : Spelling} → s ≡ noBytes → r ≡ putAll s (99 ∷ 104 ∷ 105 ∷ 112 ∷ 9 ∷ 112 ∷ 97 ∷ 103 ∷ 101 ∷ 9 ∷ 115 ∷ 116 ∷ 97 ∷ 109 ∷ 112 ∷ 10 ∷ []) → r ≡ putAll noBytes pagesHeading
+unfolding pagesHeading
+put-pages-heading e f = from _ e f
+
+-- chip, tab, page number, tab, stamp, LF
+pub put-page : (chip : Chip) (n stamp : ℕ) {s s1 s2 s3 s4 s5 r : Spelling} → s ≡ noBytes → s1 ≡ putAll s (chipText chip) → s2 ≡ putAll s1 (9 ∷ []) → s3 ≡ putAll s2 (decimal n) → s4 ≡ putAll s3 (9 ∷ [])
+    → s5 ≡ putAll s4 (decimal stamp) → r ≡ putAll s5 (10 ∷ []) → r ≡ putAll noBytes (pageLine chip n stamp)
+unfolding pageLine
+put-page chip n stamp {s} {s1} {s2} {s3} e e1 e2 e3 e4 e5 e6 =
+    from _ e (put-on s (chipText chip) _ e1 (put-on s1 (9 ∷ []) _ e2 (put-on s2 (decimal n) _ e3 (put-three s3 (9 ∷ []) (decimal stamp) (10 ∷ []) e4 e5 e6))))

@@ -14,6 +14,7 @@ use Rattle.record.specs.declared.Record.{Record}
 use Rattle.record.specs.declared.Board.{Board}
 use Rattle.record.specs.declared.Reply.{Reply}
 use Rattle.record.specs.declared.Match.{Match}
+use Rattle.record.specs.Lengths.{repliesLength}
 use Rattle.record.specs.Replies.{replyKind, replyValue, matchNumber, replyBytes}
 use Rattle.line.specs.Records.{spelled, RecordOk}
 use Rattle.line.specs.Boards.{spelledBoard}
@@ -23,9 +24,18 @@ use Rattle.text.proofs.Theorems.{first-place}
 use Rattle.record.specs.ReplyOf.{replyOf}
 use Rattle.record.proofs.ReplyOf.{reply-back}
 use Rattle.listing.specs.Bytes.{matchOf, wasPlayed, replyAt, matchAt, numberAt}
-use Rattle.listing.specs.Listing.{ListedFrom, Listed, listingOf, whereFit, Lists}
+use Rattle.listing.specs.Listing.{ListedFrom, Listed, listingOf, Formats, Lists}
+use Rattle.listing.specs.Pages.{ListsPages}
 use Rattle.listing.specs.Writing.{played}
 use Rattle.listing.proofs.Which.{listed-behind, one-listed, some-listed}
+
+-- a listing and its buffers fix number and output
+formats-one : {size : ℕ} {listed result w old new new′ : List ℕ} {n n′ : ℕ} → Formats size listed result w old new n → Formats size listed result w old new′ n′ → (n ≡ n′) × (new ≡ new′)
+formats-one p q = (p .answer ∙ sym (q .answer), p .content ∙ sym (q .content))
+
+-- any two outcomes that the promise of `list_pages` admits are equal
+pub pages-determined : (table result old new new′ : List ℕ) (n n′ : ℕ) → ListsPages table result old new n → ListsPages table result old new′ n′ → (n ≡ n′) × (new ≡ new′)
+pages-determined table result old new new′ n n′ p q = formats-one p q
 
 -- ---- the records that are listed
 module _ (text replies : List ℕ) where
@@ -34,19 +44,12 @@ module _ (text replies : List ℕ) where
   exactly-one = let t = some-listed text replies in (t .0, t .1, λ xs l. one-listed text replies (t .0) xs (t .1) l)
 
   -- the listing is that of any list of records that are listed
-  pub listing-is : (result old new : List ℕ) (n : ℕ) (rs : List Record) → Lists text replies result old new n → Listed text replies rs
-      → (n ≡ whereFit replies result old (length (listingOf rs replies result)) 0) × (new ≡ whereFit replies result old (listingOf rs replies result ++ drop (length (listingOf rs replies result)) old) old)
-  listing-is result old new n rs p l =
-      let e = one-listed text replies (p .records) rs (p .listed) l in (
-        p .answer ∙ ap (λ (xs : List Record). whereFit replies result old (length (listingOf xs replies result)) 0) e,
-        p .content ∙ ap (λ (xs : List Record). whereFit replies result old (listingOf xs replies result ++ drop (length (listingOf xs replies result)) old) old) e,
-      )
+  pub listing-is : (result old new : List ℕ) (n : ℕ) (rs : List Record) → Lists text replies result old new n → Listed text replies rs → Formats repliesLength replies result (listingOf rs replies result) old new n
+  listing-is result old new n rs p l = subst (λ (xs : List Record). Formats repliesLength replies result (listingOf xs replies result) old new n) (one-listed text replies (p .records) rs (p .listed) l) (p .formats)
 
   -- any two outcomes that the promise of `list` admits are equal
   pub list-determined : (result old new new′ : List ℕ) (n n′ : ℕ) → Lists text replies result old new n → Lists text replies result old new′ n′ → (n ≡ n′) × (new ≡ new′)
-  list-determined result old new new′ n n′ p q =
-      let e = listing-is result old new n (q .records) p (q .listed) in
-      (e .0 ∙ sym (q .answer), e .1 ∙ sym (q .content))
+  list-determined result old new new′ n n′ p q = formats-one (listing-is result old new n (q .records) p (q .listed)) (q .formats)
 
   -- records that are the whole rest of a text
   rest-listed : (rs : List Record) (at k : ℕ) → All RecordOk rs → drop at text ≡ spelledAll rs → ListedFrom text replies at k (played replies k rs)

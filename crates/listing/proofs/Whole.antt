@@ -1,104 +1,117 @@
 -- A whole listing: its parts are written one after another, and it has room.
-use Prim.Native.Nat.{ℕ, _+_, _*_, _≤_, _<_}
+use Prim.Native.Nat.{ℕ, _+_, _≤_}
 use native.Mathlib.Omega.{arith}
 use native.Mathlib.Nat.{zero-add}
-use mathlib.Core.Path.{_≡_, sym, ap, _∙_}
-use mathlib.Core.Bool.{Bool, true, false}
+use mathlib.Core.Path.{_≡_, sym, ap, subst, _∙_}
+use mathlib.Core.Bool.{true, false}
 use mathlib.Core.List.{List, _++_, append-assoc}
+use lib.Dec.{eqb, ltb}
 use lib.ListN.{length, drop, length-append}
 use lib.Seq.{sets, length-sets}
-use borrow.Author.Tests.{eq-eqb, ne-eqb, lt-ltb, le-ltb}
-use Rattle.law.specs.Words.{pick}
-use Rattle.record.specs.declared.Record.{Record}
+use borrow.Author.Tests.{eq-eqb, ne-eqb, le-ltb, eqb-true, ltb-false}
+use Rattle.law.specs.Choice.{split, true-not-false}
 use Rattle.field.specs.declared.spelling.Spelling.{Spelling}
-use Rattle.field.specs.Decimal.{largest}
 use Rattle.field.specs.Spelling.{held, noBytes, putAll}
 use Rattle.field.specs.Room.{room}
-use Rattle.field.proofs.SpellingLaws.{Holds}
+use Rattle.record.specs.Lengths.{repliesLength, resultLength, replyPlaces}
 use Rattle.listing.specs.Bytes.{answerIn, placeIn, countIn, fieldIn, isRefusal}
 use Rattle.listing.specs.Lines.{heading, lastLine, refusedLine}
-use Rattle.record.specs.Lengths.{repliesLength, resultLength, replyPlaces}
-use Rattle.listing.specs.Listing.{Listed, recordLines, listingOf, listingRoom, whereFit, Lists}
-use Rattle.listing.specs.Writing.{ListsPlayed}
-use Rattle.listing.proofs.Lengths.{heading-length, last-length, refused-length, holds}
+use Rattle.listing.specs.Listing.{recordLines, listingWith, listingRoom, whereFit, Formats, Lists}
+use Rattle.listing.specs.Writing.{ListsPlayed, ListsLines, isReady}
+use Rattle.listing.proofs.Lengths.{heading-length, holds}
 use Rattle.listing.proofs.Stores.{then, front}
 use Rattle.listing.proofs.Which.{some-listed, from-somewhere, few, lines-length}
 
+-- what is written, by its bytes
+pub rewritten : {w v old new : List ℕ} {from most n : ℕ} → w ≡ v → ListsLines w old from most new n → ListsLines v old from most new n
+rewritten {w} {v} {old} {new} {from} {most} {n} e l = subst (λ (u : List ℕ). ListsLines u old from most new n) e l
+
+-- a line that was put together and copied out
+pub line-written : (w old new : List ℕ) (from n : ℕ) {s : Spelling} → s ≡ putAll noBytes w → length w ≤ room → n ≡ from + s .len → new ≡ sets old from (held s) → ListsLines w old from 1 new n
+line-written w old new from n {s} e short p q =
+    let h = holds w e short in
+    record { place = omega (arith, p, h .len); content = q ∙ ap (λ (v : List ℕ). sets old from v) (h .bytes); space = omega (arith, p, h .len) }
+
 -- ---- which listing it is
-module _ (rs : List Record) (replies result : List ℕ) {answer place : ℕ} (is : answer ≡ answerIn result) (here : place ≡ placeIn result) where
-  refused-is : {bad : ℕ} → bad ≡ fieldIn result → isRefusal answer ≡ true → listingOf rs replies result ≡ refusedLine answer place bad
-  unfolding listingOf
-  refused-is so t =
-      ap (λ (b : Bool). pick b (refusedLine (answerIn result) (placeIn result) (fieldIn result)) (heading ++ (recordLines replies 0 rs ++ lastLine (answerIn result) (placeIn result) (countIn result)))) (ap isRefusal (sym is) ∙ t)
-      ∙ sym (λ i. refusedLine (is i) (here i) (so i))
+module _ (head lines result : List ℕ) where
+  refused-is : isRefusal (answerIn result) ≡ true → listingWith head lines result ≡ refusedLine (answerIn result) (placeIn result) (fieldIn result)
+  unfolding listingWith
+  refused-is t = rw t
 
-  played-is : {count : ℕ} → count ≡ countIn result → isRefusal answer ≡ false → listingOf rs replies result ≡ heading ++ (recordLines replies 0 rs ++ lastLine answer place count)
-  unfolding listingOf
-  played-is so t =
-      ap (λ (b : Bool). pick b (refusedLine (answerIn result) (placeIn result) (fieldIn result)) (heading ++ (recordLines replies 0 rs ++ lastLine (answerIn result) (placeIn result) (countIn result)))) (ap isRefusal (sym is) ∙ t)
-      ∙ sym (λ i. heading ++ (recordLines replies 0 rs ++ lastLine (is i) (here i) (so i)))
+  played-is : isRefusal (answerIn result) ≡ false → listingWith head lines result ≡ head ++ (lines ++ lastLine (answerIn result) (placeIn result) (countIn result))
+  unfolding listingWith
+  played-is t = rw t
 
--- ---- a buffer of another length
-module _ (text replies result old : List ℕ) where
-  nothing : ((A : Type 0) (a b : A) → whereFit replies result old a b ≡ b) → Lists text replies result old old 0
-  nothing u =
-      let t = some-listed text replies in
-      record { records = t .0; listed = t .1; within = omega arith; answer = sym (u _ _ _); content = sym (u _ _ _) }
+-- ---- buffers that do not fit
+pub ready-says : (result : List ℕ) (bytes : ℕ) → isReady result bytes ≡ true → (length result ≡ resultLength) × (listingRoom ≤ bytes)
+unfolding isReady
+ready-says result bytes t =
+    split (eqb (length result) resultLength)
+    (λ e. split (ltb bytes listingRoom) (λ l. absurd (true-not-false (sym t ∙ simp (e, l)))) (λ l. (eqb-true _ _ e, ltb-false _ _ l)))
+    (λ e. absurd (true-not-false (sym t ∙ simp e)))
 
-  pub other-replies : (length replies ≡ repliesLength → ⊥) → Lists text replies result old old 0
-  other-replies n = nothing (λ A a b. simp (ne-eqb (length replies) repliesLength n))
+module _ (size : ℕ) (listed result w old : List ℕ) where
+  nothing : ((A : Type 0) (a b : A) → whereFit size listed result old a b ≡ b) → Formats size listed result w old old 0
+  nothing u = record { within = omega arith; answer = sym (u _ _ _); content = sym (u _ _ _) }
 
-  pub other-result : length replies ≡ repliesLength → (length result ≡ resultLength → ⊥) → Lists text replies result old old 0
-  other-result e n = nothing (λ A a b. simp (eq-eqb (length replies) repliesLength e, ne-eqb (length result) resultLength n))
+  pub other-listed : (length listed ≡ size → ⊥) → Formats size listed result w old old 0
+  other-listed n = nothing (λ A a b. simp (ne-eqb (length listed) size n))
 
-  pub other-output : length replies ≡ repliesLength → length result ≡ resultLength → length old < listingRoom → Lists text replies result old old 0
-  other-output e f h = nothing (λ A a b. simp (eq-eqb (length replies) repliesLength e, eq-eqb (length result) resultLength f, lt-ltb (length old) listingRoom h))
+  pub not-ready : length listed ≡ size → isReady result (length old) ≡ false → Formats size listed result w old old 0
+  unfolding isReady
+  not-ready e t =
+      nothing (λ A a b.
+      split (eqb (length result) resultLength)
+      (λ u. split (ltb (length old) listingRoom) (λ l. simp (eq-eqb (length listed) size e, u, l)) (λ l. absurd (true-not-false (sym (simp (u, l)) ∙ t))))
+      (λ u. simp (eq-eqb (length listed) size e, u)))
 
--- ---- the right lengths
--- the heading and the records' lines leave room for a last line
-pub played-room : {text replies old new : List ℕ} {n : ℕ} → length replies ≡ repliesLength → ListsPlayed text replies old new n → n ≤ room * (replyPlaces + 1)
-played-room {text} {replies} e p =
-    let s = from-somewhere text replies (p .records) (p .listed) in
-    let t = few text replies replyPlaces (omega arith) (s .0) 0 (p .records) (omega arith) (s .1) in
-    let l = lines-length text replies (s .0) 0 (p .records) (s .1) t in
-    omega (arith, p .place, heading-length, length-append heading (recordLines replies 0 (p .records)))
+-- ---- buffers that do
+module _ (size : ℕ) (listed result old : List ℕ) (e : length listed ≡ size) (f : isReady result (length old) ≡ true) where
+  fit : {A : Type 0} (a b : A) → whereFit size listed result old a b ≡ a
+  fit a b = let r = ready-says result (length old) f in simp (eq-eqb (length listed) size e, eq-eqb (length result) resultLength (r .0), le-ltb (length old) listingRoom (r .1))
 
-fit : (replies result old : List ℕ) → length replies ≡ repliesLength → length result ≡ resultLength → listingRoom ≤ length old → {A : Type 0} (a b : A) → whereFit replies result old a b ≡ a
-fit replies result old e f h a b = simp (eq-eqb (length replies) repliesLength e, eq-eqb (length result) resultLength f, le-ltb (length old) listingRoom h)
+  whole : {new w v : List ℕ} {n : ℕ} → w ≡ v → n ≡ length v → n ≤ listingRoom → new ≡ sets old 0 v → Formats size listed result w old new n
+  whole {new} {w} {v} {n} is p m q =
+      let r = ready-says result (length old) f in
+      record {
+        within = omega (arith, ap length q, length-sets old 0 v, r .1);
+        answer = p ∙ ap length (sym is) ∙ sym (fit _ _);
+        content = q ∙ front v old (omega (arith, r .1)) ∙ ap (λ (u : List ℕ). u ++ drop (length u) old) (sym is) ∙ sym (fit _ _);
+      }
 
-module _ {text replies result old : List ℕ} (e : length replies ≡ repliesLength) (f : length result ≡ resultLength) (h : listingRoom ≤ length old) where
-  whole : {new : List ℕ} {n : ℕ} (rs : List Record) → Listed text replies rs → (w : List ℕ) → listingOf rs replies result ≡ w → n ≡ length w → n ≤ listingRoom → new ≡ sets old 0 w → Lists text replies result old new n
-  whole {new} {n} rs l w is p m q = record {
-    records = rs;
-    listed = l;
-    within = omega (arith, ap length q, length-sets old 0 w);
-    answer = p ∙ ap length (sym is) ∙ sym (fit replies result old e f h _ _);
-    content = q ∙ front w old (omega arith) ∙ ap (λ (v : List ℕ). v ++ drop (length v) old) (sym is) ∙ sym (fit replies result old e f h _ _);
-  }
+  module _ (head lines : List ℕ) where
+    -- a refusal alone
+    pub refused : {new : List ℕ} {n : ℕ} → isRefusal (answerIn result) ≡ true → ListsLines (refusedLine (answerIn result) (placeIn result) (fieldIn result)) old 0 1 new n
+        → Formats size listed result (listingWith head lines result) old new n
+    refused t l = whole (refused-is head lines result t) (l .place ∙ zero-add _) (omega (arith, l .space)) (l .content)
 
-  -- a last line after the records'
-  last : {mid new : List ℕ} {at n : ℕ} {s : Spelling} (p : ListsPlayed text replies old mid at) (w : List ℕ) → listingOf (p .records) replies result ≡ heading ++ (recordLines replies 0 (p .records) ++ w)
-      → length w ≤ room → s ≡ putAll noBytes w → n ≡ at + s .len → new ≡ sets mid at (held s) → Lists text replies result old new n
-  last {mid} {new} {at} {n} {s} p w is short d m q =
-      let hs : Holds s w = holds w d short in
-      let r = played-room e p in
-      whole (p .records) (p .listed) ((heading ++ recordLines replies 0 (p .records)) ++ w) (is ∙ sym (append-assoc heading (recordLines replies 0 (p .records)) w))
-      (omega (arith, m, hs .len, p .place, length-append (heading ++ recordLines replies 0 (p .records)) w))
-      (omega (arith, m, hs .len, r))
-      (then (heading ++ recordLines replies 0 (p .records)) w old new (p .content) (p .place) (q ∙ ap (λ (v : List ℕ). sets mid at v) (hs .bytes)))
+    -- or the heading, the lines, and the last line
+    pub ended : {mid new : List ℕ} {at n most : ℕ} → isRefusal (answerIn result) ≡ false → most ≤ replyPlaces + 1 → ListsLines (head ++ lines) old 0 most mid at
+        → ListsLines (lastLine (answerIn result) (placeIn result) (countIn result)) mid at 1 new n → Formats size listed result (listingWith head lines result) old new n
+    ended {mid} {new} {at} {n} t few-lines b l =
+        let last = lastLine (answerIn result) (placeIn result) (countIn result) in
+        whole (played-is head lines result t ∙ sym (append-assoc head lines last))
+        (omega (arith, b .place, l .place, length-append (head ++ lines) last))
+        (omega (arith, b .space, l .space))
+        (then (head ++ lines) last old new (b .content) (b .place ∙ zero-add _) (l .content))
 
-  module _ {answer place : ℕ} {refusing : Bool} (is : answer ≡ answerIn result) (here : place ≡ placeIn result) (does : refusing ≡ isRefusal answer) (small : answer ≤ largest) (little : place ≤ largest) where
-    pub ended : {mid new : List ℕ} {at n count : ℕ} {s : Spelling} → refusing ≡ false → ListsPlayed text replies old mid at → count ≡ countIn result → count ≤ largest
-        → s ≡ putAll noBytes (lastLine answer place count) → n ≡ at + s .len → new ≡ sets mid at (held s) → Lists text replies result old new n
-    ended {count} t p so tiny d m q = last p (lastLine answer place count) (played-is (p .records) replies result is here so (sym does ∙ t)) (last-length answer place count small little tiny) d m q
+-- ---- the listing of the records
+module _ {text replies old : List ℕ} where
+  -- the heading and the records' lines leave room for a last line
+  pub played-lines : {mid : List ℕ} {at : ℕ} → length replies ≡ repliesLength → (p : ListsPlayed text replies old mid at) → ListsLines (heading ++ recordLines replies 0 (p .records)) old 0 (replyPlaces + 1) mid at
+  played-lines e p =
+      let s = from-somewhere text replies (p .records) (p .listed) in
+      let t = few text replies replyPlaces (omega arith) (s .0) 0 (p .records) (omega arith) (s .1) in
+      let l = lines-length text replies (s .0) 0 (p .records) (s .1) t in
+      record {
+        place = p .place ∙ sym (zero-add _);
+        content = p .content;
+        space = omega (arith, p .place, heading-length, length-append heading (recordLines replies 0 (p .records)));
+      }
 
-    pub refused : {new : List ℕ} {n bad : ℕ} {s : Spelling} → refusing ≡ true → bad ≡ fieldIn result → bad ≤ largest
-        → s ≡ putAll noBytes (refusedLine answer place bad) → n ≡ 0 + s .len → new ≡ sets old 0 (held s) → Lists text replies result old new n
-    refused {new} {n} {bad} {s} t so tiny d m q =
-        let l = refused-length answer place bad (sym does ∙ t) little tiny in
-        let hs : Holds s (refusedLine answer place bad) = holds (refusedLine answer place bad) d l in
-        let rs = some-listed text replies in
-        whole (rs .0) (rs .1) (refusedLine answer place bad) (refused-is (rs .0) replies result is here so (sym does ∙ t))
-        (m ∙ zero-add (s .len) ∙ hs .len)
-        (omega (arith, m, hs .len))
-        (q ∙ ap (λ (v : List ℕ). sets old 0 v) (hs .bytes))
+  -- where no record is looked at, some list of them is the one
+  pub lists : {result new : List ℕ} {n : ℕ} → ((lines : List ℕ) → Formats repliesLength replies result (listingWith heading lines result) old new n) → Lists text replies result old new n
+  lists f = let t = some-listed text replies in record { records = t .0; listed = t .1; formats = f (recordLines replies 0 (t .0)) }
+
+  pub lists-played : {result mid new : List ℕ} {at n : ℕ} (p : ListsPlayed text replies old mid at) → Formats repliesLength replies result (listingWith heading (recordLines replies 0 (p .records)) result) old new n → Lists text replies result old new n
+  lists-played p f = record { records = p .records; listed = p .listed; formats = f }

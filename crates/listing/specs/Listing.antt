@@ -1,4 +1,4 @@
--- Believed: The whole listing, and which records it lists (document 01, 'One listing in full').
+-- Believed: A whole listing, and which records the one of a replay lists (document 01, 'One listing in full').
 use Prim.Native.Nat.{ℕ, suc, _+_, _*_, _≤_}
 use mathlib.Core.Bool.{true, false}
 use mathlib.Core.Path.{_≡_}
@@ -32,26 +32,33 @@ unfoldable pub recordLines : List ℕ → ℕ → List Record → List ℕ
 recordLines replies k [] = []
 recordLines replies k (r ∷ rs) = recordLine (k + 2) (r .stamp) (replyAt replies k) (matchAt replies k) ++ recordLines replies (suc k) rs
 
--- a refusal alone; else the heading, a line for each record that is listed, and the last line
-unfoldable pub listingOf : List Record → List ℕ → List ℕ → List ℕ
-listingOf rs replies result =
+-- a refusal alone; else a heading, these lines, and the last line
+unfoldable pub listingWith : List ℕ → List ℕ → List ℕ → List ℕ
+listingWith head lines result =
     pick (isRefusal (answerIn result)) (refusedLine (answerIn result) (placeIn result) (fieldIn result))
-    (heading ++ (recordLines replies 0 rs ++ lastLine (answerIn result) (placeIn result) (countIn result)))
+    (head ++ (lines ++ lastLine (answerIn result) (placeIn result) (countIn result)))
+
+-- of a replay: a line for each record that is listed
+abbrev pub listingOf : List Record → List ℕ → List ℕ → List ℕ
+listingOf rs replies result = listingWith heading (recordLines replies 0 rs) result
 
 -- enough for any listing: no line is longer than a spelling's room, and there is a line for each reply at most, a heading and a last line
 abbrev pub listingRoom : ℕ
 listingRoom = room * (replyPlaces + 2)
 
--- the first where the buffers have those lengths, the output at least that one; else the second
-abbrev pub whereFit : {A : Type 0} → List ℕ → List ℕ → List ℕ → A → A → A
-whereFit replies result old a b =
-    pick (eqb (length replies) repliesLength) (pick (eqb (length result) resultLength) (pick (ltb (length old) listingRoom) b a) b) b
+-- the first where what is listed has that length, the result its own, and the output at least the room; else the second
+abbrev pub whereFit : {A : Type 0} → ℕ → List ℕ → List ℕ → List ℕ → A → A → A
+whereFit size listed result old a b =
+    pick (eqb (length listed) size) (pick (eqb (length result) resultLength) (pick (ltb (length old) listingRoom) b a) b) b
 
--- A listing is written: it stands at the front of the output, the rest of which stays, and its length n is given back. Where the replies or the result
--- have another length, or the output is shorter, n is 0 and the output stays as it was. So n never reaches beyond the output.
+-- The listing w is written: it stands at the front of the output, the rest of which stays, and its length n is given back. Where what is listed or the result
+-- has another length, or the output is shorter, n is 0 and the output stays as it was. So n never reaches beyond the output.
+pub record Formats (size : ℕ) (listed result w old new : List ℕ) (n : ℕ) : Type 0 where
+  pub within : n ≤ length new
+  pub answer : n ≡ whereFit size listed result old (length w) 0
+  pub content : new ≡ whereFit size listed result old (w ++ drop (length w) old) old
+
 pub record Lists (text replies result old new : List ℕ) (n : ℕ) : Type 0 where
   pub records : List Record
   pub listed : Listed text replies records
-  pub within : n ≤ length new
-  pub answer : n ≡ whereFit replies result old (length (listingOf records replies result)) 0
-  pub content : new ≡ whereFit replies result old (listingOf records replies result ++ drop (length (listingOf records replies result)) old) old
+  pub formats : Formats repliesLength replies result (listingOf records replies result) old new n

@@ -1,4 +1,4 @@
--- Believed: The words of a listing as bytes (document 01, 'One listing in full').
+-- Believed: The words of the listings as bytes (document 01, 'One listing in full'; document 02, request 1/12).
 use Prim.Native.Nat.{ℕ}
 use mathlib.Core.List.{List, [], _∷_}
 
@@ -52,3 +52,16 @@ wordStop = 115 ∷ 116 ∷ 111 ∷ 112 ∷ []
 
 abbrev pub wordRefused : List ℕ
 wordRefused = 114 ∷ 101 ∷ 102 ∷ 117 ∷ 115 ∷ 101 ∷ 100 ∷ []
+
+-- of the pages' listing
+abbrev pub wordChip : List ℕ
+wordChip = 99 ∷ 104 ∷ 105 ∷ 112 ∷ []
+
+abbrev pub wordPage : List ℕ
+wordPage = 112 ∷ 97 ∷ 103 ∷ 101 ∷ []
+
+abbrev pub wordFlash : List ℕ
+wordFlash = 102 ∷ 108 ∷ 97 ∷ 115 ∷ 104 ∷ []
+
+abbrev pub wordEeprom : List ℕ
+wordEeprom = 101 ∷ 101 ∷ 112 ∷ 114 ∷ 111 ∷ 109 ∷ []

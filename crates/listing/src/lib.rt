@@ -1,16 +1,19 @@
-// What is printed of a replay (document 01, 'One listing in full'), formatted into a lent buffer: a heading, a line for each record that was played, and a
-// last line; or a refusal alone.
+// What is printed of a replay, formatted into a lent buffer: a heading, a line for each record that was played (document 01, 'One listing in full') or for each
+// page that was written (document 02, request 1/12), and a last line; or a refusal alone.
 ghost use mathlib.Core.Path.{_≡_};
 ghost use Prim.Native.Nat.{_≤_};
 ghost use lib.ListN.{length};
 ghost use Rattle.field.specs.Room.{room};
 ghost use Rattle.record.specs.Lengths.{repliesLength};
 ghost use Rattle.listing.specs.Listing.{Listed, ListedFrom, Lists, listingRoom};
+ghost use Rattle.listing.specs.Pages.{ListsPages};
 ghost use Rattle.listing.specs.Writing.{ListsPlayed, ListsRecords};
 
 mod bytes;
+mod ends;
 mod lines;
 mod output;
+mod pages;
 
 use field::Cursor;
 use line::ReadBoard;
@@ -72,19 +75,29 @@ pub fn list(text: &[u8], replies: &[u8], result: &[u8], out: &mut [u8]) -> usize
     if replies.len() != record::REPLIES {
         return 0;
     }
-    if result.len() != record::RESULT {
+    if !ends::is_ready(result, out.len()) {
         return 0;
     }
-    if out.len() < ROOM {
-        return 0;
-    }
-    let answer = bytes::number_at(result, 0);
-    let place = bytes::number_at(result, 4);
-    let count = bytes::number_at(result, 8);
-    if bytes::is_refusal(answer) {
-        let bad = bytes::number_at(result, 12);
-        return output::copy_line(lines::refused_line(answer, place, bad), out, 0);
+    if ends::refuses(result) {
+        return ends::list_refusal(result, out);
     }
     let at = list_played(text, replies, out);
-    output::copy_line(lines::last_line(answer, place, count), out, at)
+    ends::list_last(result, out, at)
+}
+
+// Formats the listing of the pages written from the table of times and the result of a replay, in the same way.
+pub fn list_pages(table: &[u8], result: &[u8], out: &mut [u8]) -> usize
+    ensures { λ r. ⌜ ListsPages (now (table .entry)) (now (result .entry)) (now (out .entry)) (now (out .exit)) r ⌝ }
+{
+    if table.len() != times::TIMES {
+        return 0;
+    }
+    if !ends::is_ready(result, out.len()) {
+        return 0;
+    }
+    if ends::refuses(result) {
+        return ends::list_refusal(result, out);
+    }
+    let at = pages::list_written(table, out);
+    ends::list_last(result, out, at)
 }

@@ -1,8 +1,10 @@
-// The lines of a listing, each put together before it is copied out.
+// The lines of the listings, each put together before it is copied out.
 ghost use mathlib.Core.Path.{_≡_};
 ghost use Rattle.field.specs.Spelling.{noBytes, putAll};
+ghost use Rattle.listing.specs.Pages.{pagesHeading, chipText, pageLine};
 ghost use Rattle.listing.specs.Lines.{heading, byteText, replyText, matchText, recordLine, settledLine, stopLine, lastLine, refusedLine};
 use field::Spelling;
+use record::Chip;
 use record::Match;
 use record::Reply;
 
@@ -99,4 +101,31 @@ pub fn refused_line(number: u32, line: u32, bad: u32) -> Spelling
     let s5 = field::put_word(s4, b"\t");
     let s6 = field::put_decimal(s5, bad);
     field::put_word(s6, b"\n")
+}
+
+pub fn pages_heading_line() -> Spelling
+    ensures { λ r. ⌜ r ≡ putAll noBytes pagesHeading ⌝ }
+{
+    field::put_word(field::no_bytes(), b"chip\tpage\tstamp\n")
+}
+
+fn put_chip(s: Spelling, chip: Chip) -> Spelling
+    ensures { λ r. ⌜ r ≡ putAll s (chipText chip) ⌝ }
+{
+    match chip {
+        Chip::Flash => field::put_word(s, b"flash"),
+        Chip::Eeprom => field::put_word(s, b"eeprom"),
+    }
+}
+
+// Chip, page number and stamp.
+pub fn page_line(chip: Chip, number: u32, stamp: u32) -> Spelling
+    ensures { λ r. ⌜ r ≡ putAll noBytes (pageLine chip number stamp) ⌝ }
+{
+    let s1 = put_chip(field::no_bytes(), chip);
+    let s2 = field::put_word(s1, b"\t");
+    let s3 = field::put_decimal(s2, number);
+    let s4 = field::put_word(s3, b"\t");
+    let s5 = field::put_decimal(s4, stamp);
+    field::put_word(s5, b"\n")
 }

@@ -1,11 +1,11 @@
 -- An EEPROM write that the chip has taken (eeprom/proofs/Written). At `end` only the bytes sent change, and a later byte for a place replaces the earlier; at `off` the
--- whole page is in doubt, and no other. Assumes nothing.
+-- whole page is in doubt, and no other; either is its page's time, and no other's. Assumes nothing.
 use Prim.Native.Nat.{ℕ, suc, _+_, _*_, _/_, _%_, _<_}
 use native.Mathlib.Nat.{mod-lt}
 use native.Mathlib.Omega.{arith}
 use mathlib.Core.Bool.{true, false}
 use mathlib.Core.Logic.{_≢_}
-use mathlib.Core.Path.{_≡_, sym, ap, _∙_}
+use mathlib.Core.Path.{_≡_, refl, sym, ap, _∙_}
 use mathlib.Core.List.{List, _∷_, _++_}
 use lib.Dec.{eqb}
 use lib.ListN.{length, getD, length-append}
@@ -24,8 +24,10 @@ use Rattle.image.proofs.AtPlace.{storePage-at, cutStorePage-at, storePage-unsen
 use Rattle.eeprom.specs.Chip as eeprom-chip
 use Rattle.eeprom.proofs.Written as eeprom
 use Rattle.eeprom.proofs.Written.{writeOf, writing, sent-as}
+use Rattle.times.specs.Times.{written}
 use Rattle.machine.specs.declared.effects.Stroke.the-variants.{Whole, Cut}
 use Rattle.machine.specs.Effects.{eepromAfter}
+use Rattle.machine.proofs.Memory.{Memory, eepromStruck}
 
 module _ (a : ℕ) (ds : List ℕ) (i : Image) (k : ℕ) (none : (j : ℕ) → j < length ds → placeAfter eepromPage a j ≢ k) where
   -- in the page, a place that is not sent
@@ -59,6 +61,14 @@ module _ (a : ℕ) (ds : List ℕ) (i : Image) (k : ℕ) where
   pub cut-elsewhere : k / eepromPage ≢ a / eepromPage → cellAt (eepromAfter Cut (writing a ds) i) k ≡ cellAt i k
   unfolding eepromAfter cutStorePage
   cut-elsewhere n = page-off eepromPage (a / eepromPage) (λ q c. doubtfulCell) i k n
+
+-- its page is written at the stamp t of the `end` or the `off`, and no other, whatever was sent (request 1/12)
+module _ (a : ℕ) (ds : List ℕ) (t : ℕ) (k : Memory) (n : ℕ) where
+  pub page-stored : eepromStruck t (writing a ds) Whole k .times n ≡ pick (eqb n (a / eepromPage)) (written t) (k .times n)
+  page-stored = refl
+
+  pub page-stored-cut : eepromStruck t (writing a ds) Cut k .times n ≡ pick (eqb n (a / eepromPage)) (written t) (k .times n)
+  page-stored-cut = refl
 
 -- 'a later byte for a place replaces the earlier'
 module _ (a : ℕ) (inside : a < eepromSize) (before : List ℕ) (d : ℕ) (later : List ℕ)

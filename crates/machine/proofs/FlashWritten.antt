@@ -8,12 +8,12 @@ use mathlib.Core.Path.{_≡_, refl, sym, ap, ap₂, _∙_}
 use mathlib.Core.List.{List, [], _∷_, _++_}
 use lib.Dec.{ltb, eqb}
 use lib.ListN.{length, getD}
-use borrow.Author.Tests.{eqb-true, eqb-false, eq-eqb}
+use borrow.Author.Tests.{eqb-true, eqb-false, eq-eqb, ne-eqb}
 use Rattle.law.specs.Choice.{split, true-not-false}
 use Rattle.law.specs.Words.{pick}
 use Rattle.meaning.specs.Meaning.{after}
 use Rattle.meaning.proofs.Steps.{after-append}
-use Rattle.page.specs.Geometry.{flashPage, flashSector, flashSize}
+use Rattle.page.specs.Geometry.{flashPage, flashSector, flashSize, sectorPages}
 use Rattle.page.specs.Rolling.{sentPlace}
 use Rattle.page.specs.Roll.{place, roll, placeAfter}
 use Rattle.page.specs.Laws.{none-sent}
@@ -48,10 +48,14 @@ use Rattle.flash.proofs.Written.{sideMoved, sideAfter, beside, Sends, done, byt
 use Rattle.eeprom.specs.declared.Eeprom.{Eeprom}
 use Rattle.controls.specs.Sides.{flashSide}
 use Rattle.controls.specs.Play.{movedOf}
+use Rattle.times.specs.declared.Pages.the-variants.{None, One}
+use Rattle.times.specs.Times.{reaches, Times, timedAt}
+use Rattle.times.specs.Times as times
 use Rattle.machine.specs.declared.effects.Stroke.{Stroke}
 use Rattle.machine.specs.declared.effects.Stroke.the-variants.{Nothing, Whole, Cut}
-use Rattle.machine.specs.Effects.{strokeOf, sectorOfPage, inSector, flashAfter, eepromAfter}
+use Rattle.machine.specs.Effects.{strokeOf, sectorOfPage, inSector, flashTouched, flashAfter, eepromAfter}
 use Rattle.machine.specs.Machine.{Machine, machineOf, playOn, onMachine}
+use Rattle.machine.proofs.Memory.{Memory, flashStruck}
 
 -- ---- the flash's side of the machine moves by the flash's own rules
 module _ (b : Board) where
@@ -97,34 +101,37 @@ byte-quiet : (supply : Bool) (f : Flash) (si so : ℕ) (lock : Bool) (watched : 
 byte-quiet true f si so lock watched = frame-quiet (f .frame) f si watched
 byte-quiet false f si so lock watched = refl
 
--- so the flash's image stays as it is while bytes are sent
-module _ (b : Board) where
-  image-kept : (m : Machine) (stamp : ℕ) (e : Event) → beside e ≡ true → playOn b m (record { stamp = stamp; event = e }) .images .flash ≡ m .images .flash
-  unfolding playOn movedOf flashAfter
-  image-kept m stamp (event.Flash e) t = absurd (true-not-false (sym t))
-  image-kept m stamp (event.Eeprom e) t = refl
-  image-kept m stamp (event.Line SupplyOn) t = refl
-  image-kept m stamp (event.Line SupplyOff) t = absurd (true-not-false (sym t))
-  image-kept m stamp (event.Line LockOn) t = refl
-  image-kept m stamp (event.Line LockOff) t = refl
+-- so the flash's image and its pages' times stay as they are while bytes are sent
+abbrev memory : Machine → Memory
+memory m = record { image = m .images .flash; times = m .times .flash }
 
-  byte-kept : (m : Machine) (stamp si so : ℕ) → playOn b m (record { stamp = stamp; event = event.Flash (flash.Byte si so) }) .images .flash ≡ m .images .flash
+module _ (b : Board) where
+  memory-kept : (m : Machine) (stamp : ℕ) (e : Event) → beside e ≡ true → memory (playOn b m (record { stamp = stamp; event = e })) ≡ memory m
+  unfolding playOn movedOf flashAfter
+  memory-kept m stamp (event.Flash e) t = absurd (true-not-false (sym t))
+  memory-kept m stamp (event.Eeprom e) t = refl
+  memory-kept m stamp (event.Line SupplyOn) t = refl
+  memory-kept m stamp (event.Line SupplyOff) t = absurd (true-not-false (sym t))
+  memory-kept m stamp (event.Line LockOn) t = refl
+  memory-kept m stamp (event.Line LockOff) t = refl
+
+  byte-kept : (m : Machine) (stamp si so : ℕ) → memory (playOn b m (record { stamp = stamp; event = event.Flash (flash.Byte si so) })) ≡ memory m
   unfolding playOn movedOf flashAfter
   byte-kept m stamp si so =
-      ap (λ (k : Stroke). flashAfter k (b .sector) (m .controls .flash) (m .images .flash))
+      ap (λ (k : Stroke). flashStruck stamp (b .sector) (m .controls .flash) k (memory m))
       (byte-quiet (m .controls .lines .supply) (m .controls .flash) si so (m .controls .lines .lock) (b .sector))
 
-  sends-kept : {rs : List Record} {ds : List ℕ} → Sends rs ds → (m : Machine) → after (onMachine b) rs m .images .flash ≡ m .images .flash
+  sends-kept : {rs : List Record} {ds : List ℕ} → Sends rs ds → (m : Machine) → memory (after (onMachine b) rs m) ≡ memory m
   unfolding after
   sends-kept done m = refl
   sends-kept (byte stamp si so k) m = sends-kept k (playOn b m _) ∙ byte-kept m stamp si so
-  sends-kept (other r t k) m = sends-kept k (playOn b m r) ∙ image-kept m (r .stamp) (r .event) t
+  sends-kept (other r t k) m = sends-kept k (playOn b m r) ∙ memory-kept m (r .stamp) (r .event) t
 
 -- ---- a whole PROGRAM: `sel`, the bytes, `des`, and what ends its cycle
 -- the machine with the supply on, no flash cycle, and the status known
-abbrev pub ready : FlashFrame → ℕ → List ℕ → Bool → Eeprom → Images → Machine
-ready frame status page lock e x =
-    machineOf (record { flash = awake frame status page lock .chip; eeprom = e; lines = awake frame status page lock .lines }) x
+abbrev pub ready : FlashFrame → ℕ → List ℕ → Bool → Eeprom → Images → Times → Machine
+ready frame status page lock e x y =
+    machineOf (record { flash = awake frame status page lock .chip; eeprom = e; lines = awake frame status page lock .lines }) x y
 
 module _ (b : Board) where
   moved-on : (m : Machine) (stamp : ℕ) (e : Event) → beside e ≡ true → m .controls .lines .supply ≡ true → playOn b m (record { stamp = stamp; event = e }) .controls .lines .supply ≡ true
@@ -150,31 +157,45 @@ module _ (b : Board) where
   -- `des` that starts the cycle, then `end` or `off`
   module _ (m : Machine) (on : m .controls .lines .supply ≡ true) (status a : ℕ) (ds : List ℕ)
       (starts : deselected (b .sector) (flashSide (m .controls)) ≡ starting (programming status a ds)) (u v : ℕ) where
-    deselects : playOn b m (onF u flash.Deselect) ≡ machineOf (record { flash = programming status a ds; eeprom = m .controls .eeprom; lines = m .controls .lines }) (m .images)
+    deselects : playOn b m (onF u flash.Deselect) ≡ machineOf (record { flash = programming status a ds; eeprom = m .controls .eeprom; lines = m .controls .lines }) (m .images) (m .times)
     unfolding playOn movedOf flashAfter eepromAfter
     deselects =
         ap (λ (s : FlashStep).
         machineOf (record { flash = s .chip; eeprom = m .controls .eeprom; lines = m .controls .lines })
-        (record { flash = flashAfter (strokeOf (s .reply)) (b .sector) (m .controls .flash) (m .images .flash); eeprom = m .images .eeprom })) starts
+        (record { flash = flashAfter (strokeOf (s .reply)) (b .sector) (m .controls .flash) (m .images .flash); eeprom = m .images .eeprom })
+        (record { flash = timedAt u (flashTouched (strokeOf (s .reply)) (b .sector) (m .controls .flash)) (m .times .flash); eeprom = m .times .eeprom })) starts
 
-    ends : after (onMachine b) (onF u flash.Deselect ∷ onF v flash.End ∷ []) m .images .flash ≡ flashAfter Whole (b .sector) (programming status a ds) (m .images .flash)
+    ends : memory (after (onMachine b) (onF u flash.Deselect ∷ onF v flash.End ∷ []) m) ≡ flashStruck v (b .sector) (programming status a ds) Whole (memory m)
     unfolding after playOn movedOf
     ends =
-        ap (λ (n : Machine). playOn b n (onF v flash.End) .images .flash) deselects
+        ap (λ (n : Machine). memory (playOn b n (onF v flash.End))) deselects
         ∙ ap (λ (s : Bool).
-        flashAfter (strokeOf (pick s (endOf (programming status a ds)) (darkOf (programming status a ds) flash.End) .reply)) (b .sector)
-        (programming status a ds) (m .images .flash)) on
+        flashStruck v (b .sector) (programming status a ds)
+        (strokeOf (pick s (endOf (programming status a ds)) (darkOf (programming status a ds) flash.End) .reply)) (memory m)) on
 
-    cuts : after (onMachine b) (onF u flash.Deselect ∷ onL v SupplyOff ∷ []) m .images .flash ≡ flashAfter Cut (b .sector) (programming status a ds) (m .images .flash)
+    cuts : memory (after (onMachine b) (onF u flash.Deselect ∷ onL v SupplyOff ∷ []) m) ≡ flashStruck v (b .sector) (programming status a ds) Cut (memory m)
     unfolding after playOn movedOf
     cuts =
-        ap (λ (n : Machine). playOn b n (onL v SupplyOff) .images .flash) deselects
-        ∙ ap (λ (s : Bool). flashAfter (pick s Cut Nothing) (b .sector) (programming status a ds) (m .images .flash)) on
+        ap (λ (n : Machine). memory (playOn b n (onL v SupplyOff))) deselects
+        ∙ ap (λ (s : Bool). flashStruck v (b .sector) (programming status a ds) (pick s Cut Nothing) (memory m)) on
 
 -- ---- what the cycle of a PROGRAM does to the image of the watched sector
 -- place k of a sector, in the whole chip
 abbrev pub inChip : ℕ → ℕ → ℕ
 inChip sector k = (sector - 1) * flashSector + k
+
+-- does the address a lie on page n of the sector? It does where it lies on the page of the chip that begins there
+abbrev pub onPage : ℕ → ℕ → ℕ → Bool
+onPage sector n a = eqb (a / flashPage) (inChip sector (flashPage * n) / flashPage)
+
+touched-page : (sector n a : ℕ) → n < sectorPages → 1 ≤ sector → reaches (pick (eqb (sectorOfPage (a / flashPage)) sector) (One (inSector (a / flashPage))) None) n ≡ onPage sector n a
+touched-page sector n a l some-sector =
+    split (eqb (sectorOfPage (a / flashPage)) sector)
+    (λ t. let e = eqb-true (sectorOfPage (a / flashPage)) sector t in
+    split (eqb n (inSector (a / flashPage)))
+    (λ u. let f = eqb-true n (inSector (a / flashPage)) u in simp (t, u, eq-eqb (a / flashPage) (inChip sector (flashPage * n) / flashPage) (omega arith)))
+    (λ u. let f = eqb-false n (inSector (a / flashPage)) u in simp (t, u, ne-eqb (a / flashPage) (inChip sector (flashPage * n) / flashPage) (λ z. f (omega arith)))))
+    (λ t. let e = eqb-false (sectorOfPage (a / flashPage)) sector t in simp (t, ne-eqb (a / flashPage) (inChip sector (flashPage * n) / flashPage) (λ z. e (omega arith))))
 
 -- no byte of n from address a on goes to place k of the sector
 abbrev pub NoneFor : ℕ → ℕ → ℕ → ℕ → Type 0
@@ -250,51 +271,69 @@ module _ (status a : ℕ) (inside : a < flashSize) (before : List ℕ) (d : ℕ)
       ∙ ap₂ (λ (q e : ℕ). cutCell (cellAt i q) e) its-place its-byte)
 
 -- ---- a PROGRAM of these data bytes, which may start, on a machine with the supply on, no flash cycle and the status known; whatever the frame, the page and the lock,
--- the EEPROM and the images
+-- the EEPROM, the images and the times
 module _ (b : Board) (status : ℕ) (enable : enabled status ≡ true) (code high middle low : ℕ) (program : decodeOf code ≡ decodeOf 0x02)
     (free : sectorLocked status (sectorOf (addressOf high middle low)) ≡ false) (ds : List ℕ) (some : 1 ≤ length ds)
     {rs : List Record} (sends : Sends rs (code ∷ high ∷ middle ∷ low ∷ ds))
-    (frame : FlashFrame) (page : List ℕ) (lock : Bool) (e : Eeprom) (x : Images) (t u v : ℕ) where
+    (frame : FlashFrame) (page : List ℕ) (lock : Bool) (e : Eeprom) (x : Images) (y : Times) (t u v : ℕ) where
   abbrev a : ℕ
   a = addressOf high middle low
 
   -- `sel` and the bytes
   abbrev sent : Machine
-  sent = after (onMachine b) (onF t flash.Select ∷ rs) (ready frame status page lock e x)
+  sent = after (onMachine b) (onF t flash.Select ∷ rs) (ready frame status page lock e x y)
 
-  sent-image : sent .images .flash ≡ x .flash
+  sent-memory : memory sent ≡ record { image = x .flash; times = y .flash }
   unfolding after playOn movedOf flashAfter
-  sent-image = sends-kept b sends (playOn b (ready frame status page lock e x) (onF t flash.Select))
+  sent-memory = sends-kept b sends (playOn b (ready frame status page lock e x y) (onF t flash.Select))
 
   sent-on : sent .controls .lines .supply ≡ true
   unfolding after playOn movedOf
-  sent-on = sends-on b sends (playOn b (ready frame status page lock e x) (onF t flash.Select)) refl
+  sent-on = sends-on b sends (playOn b (ready frame status page lock e x y) (onF t flash.Select)) refl
 
   sent-starts : deselected (b .sector) (flashSide (sent .controls)) ≡ starting (programming status a ds)
   unfolding sideAfter
   sent-starts =
-      ap (deselected (b .sector)) (side-after b (onF t flash.Select ∷ rs) (ready frame status page lock e x))
+      ap (deselected (b .sector)) (side-after b (onF t flash.Select ∷ rs) (ready frame status page lock e x y))
       ∙ written (b .sector) status enable code high middle low program free ds sends some frame page lock
 
-  -- the image after `end`, and after `off`
-  pub cycle-ends : after (onMachine b) (onF t flash.Select ∷ (rs ++ (onF u flash.Deselect ∷ onF v flash.End ∷ []))) (ready frame status page lock e x) .images .flash
-      ≡ flashAfter Whole (b .sector) (programming status a ds) (x .flash)
-  cycle-ends =
-      ap (λ (m : Machine). m .images .flash) (after-append (onMachine b) (onF t flash.Select ∷ rs) (onF u flash.Deselect ∷ onF v flash.End ∷ []) (ready frame status page lock e x))
+  -- the image and the times after `end`, and after `off`: the stamp is that of the record that ends or cuts the cycle
+  ended : memory (after (onMachine b) (onF t flash.Select ∷ (rs ++ (onF u flash.Deselect ∷ onF v flash.End ∷ []))) (ready frame status page lock e x y))
+      ≡ flashStruck v (b .sector) (programming status a ds) Whole (record { image = x .flash; times = y .flash })
+  ended =
+      ap memory (after-append (onMachine b) (onF t flash.Select ∷ rs) (onF u flash.Deselect ∷ onF v flash.End ∷ []) (ready frame status page lock e x y))
       ∙ ends b sent sent-on status a ds sent-starts u v
-      ∙ ap (flashAfter Whole (b .sector) (programming status a ds)) sent-image
+      ∙ ap (flashStruck v (b .sector) (programming status a ds) Whole) sent-memory
 
-  pub cycle-cut : after (onMachine b) (onF t flash.Select ∷ (rs ++ (onF u flash.Deselect ∷ onL v SupplyOff ∷ []))) (ready frame status page lock e x) .images .flash
-      ≡ flashAfter Cut (b .sector) (programming status a ds) (x .flash)
-  cycle-cut =
-      ap (λ (m : Machine). m .images .flash) (after-append (onMachine b) (onF t flash.Select ∷ rs) (onF u flash.Deselect ∷ onL v SupplyOff ∷ []) (ready frame status page lock e x))
+  cutOff : memory (after (onMachine b) (onF t flash.Select ∷ (rs ++ (onF u flash.Deselect ∷ onL v SupplyOff ∷ []))) (ready frame status page lock e x y))
+      ≡ flashStruck v (b .sector) (programming status a ds) Cut (record { image = x .flash; times = y .flash })
+  cutOff =
+      ap memory (after-append (onMachine b) (onF t flash.Select ∷ rs) (onF u flash.Deselect ∷ onL v SupplyOff ∷ []) (ready frame status page lock e x y))
       ∙ cuts b sent sent-on status a ds sent-starts u v
-      ∙ ap (flashAfter Cut (b .sector) (programming status a ds)) sent-image
+      ∙ ap (flashStruck v (b .sector) (programming status a ds) Cut) sent-memory
+
+  pub cycle-ends : after (onMachine b) (onF t flash.Select ∷ (rs ++ (onF u flash.Deselect ∷ onF v flash.End ∷ []))) (ready frame status page lock e x y) .images .flash
+      ≡ flashAfter Whole (b .sector) (programming status a ds) (x .flash)
+  cycle-ends = ap (λ (m : Memory). m .image) ended
+
+  pub cycle-cut : after (onMachine b) (onF t flash.Select ∷ (rs ++ (onF u flash.Deselect ∷ onL v SupplyOff ∷ []))) (ready frame status page lock e x y) .images .flash
+      ≡ flashAfter Cut (b .sector) (programming status a ds) (x .flash)
+  cycle-cut = ap (λ (m : Memory). m .image) cutOff
+
+  -- so the page that the address lies on was last written at v, not at u, whatever the data; the times of the others stay
+  module _ (n : ℕ) (l : n < sectorPages) (some-sector : 1 ≤ b .sector) where
+    pub page-ends : after (onMachine b) (onF t flash.Select ∷ (rs ++ (onF u flash.Deselect ∷ onF v flash.End ∷ []))) (ready frame status page lock e x y) .times .flash n
+        ≡ pick (onPage (b .sector) n a) (times.written v) (y .flash n)
+    page-ends = ap (λ (m : Memory). m .times n) ended ∙ ap (λ (q : Bool). pick q (times.written v) (y .flash n)) (touched-page (b .sector) n a l some-sector)
+
+    pub page-cut : after (onMachine b) (onF t flash.Select ∷ (rs ++ (onF u flash.Deselect ∷ onL v SupplyOff ∷ []))) (ready frame status page lock e x y) .times .flash n
+        ≡ pick (onPage (b .sector) n a) (times.written v) (y .flash n)
+    page-cut = ap (λ (m : Memory). m .times n) cutOff ∙ ap (λ (q : Bool). pick q (times.written v) (y .flash n)) (touched-page (b .sector) n a l some-sector)
 
   -- so a place that no byte went to is as it was
   module _ (k : ℕ) (c : ByteCell (cellAt (x .flash) k)) (none : NoneFor a (length ds) (b .sector) k) where
-    pub unsent-ends : cellAt (after (onMachine b) (onF t flash.Select ∷ (rs ++ (onF u flash.Deselect ∷ onF v flash.End ∷ []))) (ready frame status page lock e x) .images .flash) k ≡ cellAt (x .flash) k
+    pub unsent-ends : cellAt (after (onMachine b) (onF t flash.Select ∷ (rs ++ (onF u flash.Deselect ∷ onF v flash.End ∷ []))) (ready frame status page lock e x y) .images .flash) k ≡ cellAt (x .flash) k
     unsent-ends = ap (λ (i : Image). cellAt i k) cycle-ends ∙ only-sent status a ds (b .sector) (x .flash) k c none
 
-    pub unsent-cut : cellAt (after (onMachine b) (onF t flash.Select ∷ (rs ++ (onF u flash.Deselect ∷ onL v SupplyOff ∷ []))) (ready frame status page lock e x) .images .flash) k ≡ cellAt (x .flash) k
+    pub unsent-cut : cellAt (after (onMachine b) (onF t flash.Select ∷ (rs ++ (onF u flash.Deselect ∷ onL v SupplyOff ∷ []))) (ready frame status page lock e x y) .images .flash) k ≡ cellAt (x .flash) k
     unsent-cut = ap (λ (i : Image). cellAt i k) cycle-cut ∙ only-sent-cut status a ds (b .sector) (x .flash) k c none

@@ -1,3 +1,4 @@
 pub mod Playing
+pub mod Memory
 pub mod FlashWritten
 pub mod EepromWritten

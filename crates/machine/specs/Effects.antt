@@ -1,4 +1,4 @@
--- Believed: What the cycles do to the images, whole at `end` and cut by `off` (document 01, 'Flash rules', 'EEPROM rules', 'Supply'; request 3/12).
+-- Believed: What the cycles do to the images, whole at `end` and cut by `off` (document 01, 'Flash rules', 'EEPROM rules', 'Supply'; requests 1/12 and 3/12), and which pages they touch.
 use Prim.Native.Nat.{ℕ, _+_, _/_, _%_}
 use mathlib.Core.Bool.{Bool, true, not}
 use mathlib.Core.List.{List}
@@ -29,6 +29,10 @@ use Rattle.page.specs.Geometry.{sectorPages}
 use Rattle.image.specs.Image.{Image}
 use Rattle.image.specs.Images.{Images, perChip}
 use Rattle.image.specs.Cycles.{programPage, cutProgramPage, eraseAll, cutEraseAll, storePage, cutStorePage}
+use Rattle.times.specs.declared.Pages.{Pages}
+use Rattle.times.specs.declared.Pages.the-variants.{None, One, All}
+use Rattle.times.specs.declared.Touched.{Touched}
+use Rattle.times.specs.Times.{onPages}
 use Rattle.machine.specs.declared.effects.Stroke.{Stroke}
 use Rattle.machine.specs.declared.effects.Stroke.the-variants.{Nothing, Whole, Cut}
 
@@ -65,33 +69,70 @@ abbrev pub reached : FlashStatus → ℕ → Bool
 reached Lost watched = true
 reached (Known s) watched = not (sectorLocked s watched)
 
--- what a cycle reaches of what is kept, with a rule for a page and its data and one for a whole sector: outside the watched sector nothing changes; WRSR changes no byte
-abbrev pub flashBy : (ℕ → List ℕ → Image → Image) → (Image → Image) → ℕ → FlashCycle → List ℕ → FlashStatus → Image → Image
-flashBy programmed erased watched flash-cycle.None page status i = i
-flashBy programmed erased watched (flash-cycle.Program n) page status i = pick (eqb (sectorOfPage n) watched) (programmed (inSector n) page i) i
-flashBy programmed erased watched (flash-cycle.SectorErase sector) page status i = pick (eqb sector watched) (erased i) i
-flashBy programmed erased watched flash-cycle.ChipErase page status i = pick (reached status watched) (erased i) i
-flashBy programmed erased watched (flash-cycle.WriteStatus bits) page status i = i
+-- which of the kept pages the flash's cycle touches, whole or cut: outside the watched sector none, and WRSR none. 'A program touches its page even if no bit changes, an erase every page it reaches' (request 1/12)
+abbrev pub flashPages : ℕ → FlashCycle → FlashStatus → Pages
+flashPages watched flash-cycle.None status = None
+flashPages watched (flash-cycle.Program n) status = pick (eqb (sectorOfPage n) watched) (One (inSector n)) None
+flashPages watched (flash-cycle.SectorErase sector) status = pick (eqb sector watched) All None
+flashPages watched flash-cycle.ChipErase status = pick (reached status watched) All None
+flashPages watched (flash-cycle.WriteStatus bits) status = None
 
--- at `end` the rules of a whole cycle, at `off` those of a cut one
+-- and the EEPROM's, of which all bytes are kept
+abbrev pub eepromPages : EepromCycle → Pages
+eepromPages eeprom-cycle.None = None
+eepromPages (eeprom-cycle.Write s) = One (s .page)
+
+-- a stroke touches the pages of the cycle that it ends or cuts
+abbrev pub strokePages : Stroke → Pages → Pages
+strokePages Nothing p = None
+strokePages Whole p = p
+strokePages Cut p = p
+
+abbrev pub flashTouched : Stroke → ℕ → Flash → Pages
+flashTouched s watched f = strokePages s (flashPages watched (f .cycle) (f .status))
+
+abbrev pub eepromTouched : Stroke → Eeprom → Pages
+eepromTouched s e = strokePages s (eepromPages (e .cycle))
+
+-- the rule for a page and for all: at `end` that of a whole cycle, at `off` that of a cut one; without a stroke no page is touched
+abbrev pub programBy : Stroke → List ℕ → ℕ → Image → Image
+programBy Nothing bytes n i = i
+programBy Whole bytes n i = programPage n bytes i
+programBy Cut bytes n i = cutProgramPage n bytes i
+
+abbrev pub eraseBy : Stroke → Image → Image
+eraseBy Nothing i = i
+eraseBy Whole i = eraseAll i
+eraseBy Cut i = cutEraseAll i
+
+-- what was sent in a write; where none runs, no page is touched either
+abbrev pub sentIn : EepromCycle → Sent
+sentIn eeprom-cycle.None = record { page = 0; first = 0; count = 0 }
+sentIn (eeprom-cycle.Write s) = s
+
+abbrev pub storeBy : Stroke → Sent → List ℕ → ℕ → Image → Image
+storeBy Nothing sent bytes n i = i
+storeBy Whole sent bytes n i = storePage n (sent .first) (sent .count) bytes i
+storeBy Cut sent bytes n i = cutStorePage n i
+
+-- what a stroke makes of the image, on the pages that it touches
 unfoldable pub flashAfter : Stroke → ℕ → Flash → Image → Image
-flashAfter Nothing watched f i = i
-flashAfter Whole watched f i = flashBy programPage eraseAll watched (f .cycle) (f .page) (f .status) i
-flashAfter Cut watched f i = flashBy cutProgramPage cutEraseAll watched (f .cycle) (f .page) (f .status) i
+flashAfter s watched f i = onPages (programBy s (f .page)) (eraseBy s) (flashTouched s watched f) i
 
--- the EEPROM's bytes are all kept: a rule for the page and the places that were sent
-abbrev pub eepromBy : (Sent → Image → Image) → EepromCycle → Image → Image
-eepromBy stored eeprom-cycle.None i = i
-eepromBy stored (eeprom-cycle.Write s) i = stored s i
-
+-- the EEPROM has no erase
 unfoldable pub eepromAfter : Stroke → Eeprom → Image → Image
-eepromAfter Nothing e i = i
-eepromAfter Whole e i = eepromBy (λ s. storePage (s .page) (s .first) (s .count) (e .page)) (e .cycle) i
-eepromAfter Cut e i = eepromBy (λ s. cutStorePage (s .page)) (e .cycle) i
+eepromAfter s e i = onPages (storeBy s (sentIn (e .cycle)) (e .page)) (λ i. i) (eepromTouched s e) i
 
 -- what a record makes of the images, by its event and its reply, with these controls before it: each chip's image by its own stroke
 abbrev pub imagesAfter : Board → Controls → Event → Skeleton → Images → Images
 imagesAfter b c v k x = record {
   flash = flashAfter (strokeFor chip.Flash (c .lines) v k) (b .sector) (c .flash) (x .flash);
   eeprom = eepromAfter (strokeFor chip.Eeprom (c .lines) v k) (c .eeprom) (x .eeprom);
+}
+
+-- and the pages that it touches
+abbrev pub touchedBy : Board → Controls → Event → Skeleton → Touched
+touchedBy b c v k = record {
+  flash = flashTouched (strokeFor chip.Flash (c .lines) v k) (b .sector) (c .flash);
+  eeprom = eepromTouched (strokeFor chip.Eeprom (c .lines) v k) (c .eeprom);
 }

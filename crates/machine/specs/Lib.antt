@@ -1,4 +1,5 @@
--- The machine: both controls and both images, and what one record does to them.
+-- The machine: both controls, both images and the pages' times, and what one record does to them.
 pub mod Effects
 pub mod Machine
 pub mod Replies
+pub mod Turn

@@ -1,4 +1,4 @@
--- Believed: The machine as demand 3 speaks of it: what one record does to controls and images, and its reply.
+-- Believed: The machine as demand 3 speaks of it: what one record does to controls, images and times, and its reply.
 use Rattle.meaning.specs.Meaning.{Channel, F, E, L, Rules}
 use Rattle.record.specs.declared.Board.{Board}
 use Rattle.record.specs.declared.Record.{Record}
@@ -10,19 +10,22 @@ use Rattle.controls.specs.declared.Controls.{Controls}
 use Rattle.controls.specs.Play.{startOf, movedOf, lostOf}
 use Rattle.image.specs.Image.{Image}
 use Rattle.image.specs.Images.{Images}
-use Rattle.machine.specs.Effects.{imagesAfter}
+use Rattle.times.specs.Times.{Times, neverWritten, timesAfter}
+use Rattle.machine.specs.Effects.{imagesAfter, touchedBy}
 use Rattle.machine.specs.Replies.{delivered}
 
+-- 'Demand 3's state gains these stamps' (request 1/12)
 pub record Machine : Type 0 where
   pub controls : Controls
   pub images : Images
+  pub times : Times
 
-abbrev pub machineOf : Controls → Images → Machine
-machineOf c x = record { controls = c; images = x }
+abbrev pub machineOf : Controls → Images → Times → Machine
+machineOf c x y = record { controls = c; images = x; times = y }
 
--- 'Bytes and doubt': the start, with the images as they are lent
+-- 'Bytes and doubt': the start, with the images as they are lent; no page has been written yet
 abbrev pub machineAtStart : Board → Images → Machine
-machineAtStart b x = machineOf (startOf b) x
+machineAtStart b x = machineOf (startOf b) x neverWritten
 
 abbrev pub channelOf : Event → Channel
 channelOf (event.Flash e) = F
@@ -38,6 +41,7 @@ imageFor (event.Line e) x = x .flash
 unfoldable pub playOn : Board → Machine → Record → Machine
 playOn b m r =
     machineOf (movedOf b (m .controls) r .controls) (imagesAfter b (m .controls) (r .event) (movedOf b (m .controls) r .reply) (m .images))
+    (timesAfter (r .stamp) (touchedBy b (m .controls) (r .event) (movedOf b (m .controls) r .reply)) (m .times))
 
 unfoldable pub saysOn : Board → Machine → Record → Reply
 saysOn b m r = delivered (imageFor (r .event) (m .images)) (movedOf b (m .controls) r .reply)
@@ -52,7 +56,7 @@ onMachine b = record {
   lost = λ m. lostOf (m .controls);
 }
 
--- and the controls by themselves: no image, and a byte that is read is told by its place
+-- and the controls by themselves: no image, no page's time, and a byte that is read is told by its place
 abbrev pub onControls : Board → Rules Record Controls Skeleton
 onControls b = record {
   channel = λ r. channelOf (r .event);

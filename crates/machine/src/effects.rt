@@ -1,19 +1,23 @@
-// What a record does to the chips' cycles, and the cycles, whole or cut, to the images.
+// What a record does to the chips' cycles, which pages it touches so, and what becomes of the images there.
 ghost use mathlib.Core.Path.{_≡_};
 ghost use Rattle.image.specs.Image.{imageOf};
 ghost use Rattle.image.specs.Images.{perChip};
-ghost use Rattle.machine.specs.declared.effects.Stroke.{Stroke};
-ghost use Rattle.machine.specs.Effects.{strokeOf, lineStroke, strokeFor, flashAfter, eepromAfter, reached};
+ghost use Rattle.times.specs.Times.{onPages};
+ghost use Rattle.machine.specs.Effects.{strokeOf, lineStroke, strokeFor, reached, flashPages, eepromPages, strokePages, programBy, eraseBy, sentIn, storeBy};
 use eeprom::Eeprom;
 use eeprom::EepromCycle;
+use eeprom::EepromPage;
+use eeprom::Sent;
 use flash::Flash;
 use flash::FlashCycle;
+use flash::FlashPage;
 use flash::FlashStatus;
 use record::Chip;
 use record::Event;
 use record::LineEvent;
 use record::Lines;
 use record::Skeleton;
+use times::Pages;
 
 // What a record does to a chip's cycle.
 pub enum Stroke {
@@ -77,159 +81,200 @@ fn reaches(status: FlashStatus, watched: u8) -> bool
     }
 }
 
-// The flash's cycle ends whole.
-fn flash_whole(values: &mut [u8], masks: &mut [u8], watched: u8, chip: Flash)
-    ensures { λ _. ⌜ imageOf (now (values .exit)) (now (masks .exit)) ≡ flashAfter Stroke.Whole watched chip (imageOf (now (values .entry)) (now (masks .entry))) ⌝ }
+// Which of the kept pages the flash's cycle touches.
+fn flash_pages(watched: u8, cycle: FlashCycle, status: FlashStatus) -> Pages
+    ensures { λ r. ⌜ r ≡ flashPages watched cycle status ⌝ }
 {
-    let cycle = chip.cycle;
-    let page = chip.page;
-    let status = chip.status;
     match cycle {
-        FlashCycle::None => {
-            return;
-        }
+        FlashCycle::None => Pages::None,
         FlashCycle::Program(n) => {
             if n / page::SECTOR_PAGES + 1 == watched as u32 {
-                image::program_page(values, masks, (n % page::SECTOR_PAGES) as usize, page);
-                return;
+                return Pages::One(n % page::SECTOR_PAGES);
             }
-            return;
+            Pages::None
         }
         FlashCycle::SectorErase(sector) => {
             if sector == watched {
-                image::erase(values, masks);
-                return;
+                return Pages::All;
             }
-            return;
+            Pages::None
         }
         FlashCycle::ChipErase => {
             if reaches(status, watched) {
-                image::erase(values, masks);
-                return;
+                return Pages::All;
             }
-            return;
+            Pages::None
         }
-        FlashCycle::WriteStatus(_) => {
-            return;
-        }
+        FlashCycle::WriteStatus(_) => Pages::None,
     }
 }
 
-// The supply cuts the flash's cycle.
-fn flash_cut(values: &mut [u8], masks: &mut [u8], watched: u8, chip: Flash)
-    ensures { λ _. ⌜ imageOf (now (values .exit)) (now (masks .exit)) ≡ flashAfter Stroke.Cut watched chip (imageOf (now (values .entry)) (now (masks .entry))) ⌝ }
+// And the EEPROM's.
+fn eeprom_pages(cycle: EepromCycle) -> Pages
+    ensures { λ r. ⌜ r ≡ eepromPages cycle ⌝ }
 {
-    let cycle = chip.cycle;
-    let page = chip.page;
-    let status = chip.status;
     match cycle {
-        FlashCycle::None => {
-            return;
-        }
-        FlashCycle::Program(n) => {
-            if n / page::SECTOR_PAGES + 1 == watched as u32 {
-                image::cut_program_page(values, masks, (n % page::SECTOR_PAGES) as usize, page);
-                return;
-            }
-            return;
-        }
-        FlashCycle::SectorErase(sector) => {
-            if sector == watched {
-                image::cut_erase(values, masks);
-                return;
-            }
-            return;
-        }
-        FlashCycle::ChipErase => {
-            if reaches(status, watched) {
-                image::cut_erase(values, masks);
-                return;
-            }
-            return;
-        }
-        FlashCycle::WriteStatus(_) => {
-            return;
-        }
+        EepromCycle::None => Pages::None,
+        EepromCycle::Write(s) => Pages::One(s.page),
     }
 }
 
-pub(crate) fn change_flash(
+// A stroke touches the pages of the cycle that it ends or cuts.
+pub(crate) fn flash_touched(
     stroke: Stroke,
-    values: &mut [u8],
-    masks: &mut [u8],
     watched: u8,
-    chip: Flash,
-)
-    ensures { λ _. ⌜ imageOf (now (values .exit)) (now (masks .exit)) ≡ flashAfter stroke watched chip (imageOf (now (values .entry)) (now (masks .entry))) ⌝ }
+    cycle: FlashCycle,
+    status: FlashStatus,
+) -> Pages
+    ensures { λ r. ⌜ r ≡ strokePages stroke (flashPages watched cycle status) ⌝ }
+{
+    match stroke {
+        Stroke::Nothing => Pages::None,
+        Stroke::Whole => flash_pages(watched, cycle, status),
+        Stroke::Cut => flash_pages(watched, cycle, status),
+    }
+}
+
+pub(crate) fn eeprom_touched(stroke: Stroke, cycle: EepromCycle) -> Pages
+    ensures { λ r. ⌜ r ≡ strokePages stroke (eepromPages cycle) ⌝ }
+{
+    match stroke {
+        Stroke::Nothing => Pages::None,
+        Stroke::Whole => eeprom_pages(cycle),
+        Stroke::Cut => eeprom_pages(cycle),
+    }
+}
+
+// A PROGRAM of these bytes in a page.
+fn program_by(stroke: Stroke, bytes: FlashPage, n: u32, values: &mut [u8], masks: &mut [u8])
+    ensures { λ _. ⌜ imageOf (now (values .exit)) (now (masks .exit)) ≡ programBy stroke bytes n (imageOf (now (values .entry)) (now (masks .entry))) ⌝ }
 {
     match stroke {
         Stroke::Nothing => {
             return;
         }
         Stroke::Whole => {
-            flash_whole(values, masks, watched, chip);
+            image::program_page(values, masks, n as usize, bytes);
             return;
         }
         Stroke::Cut => {
-            flash_cut(values, masks, watched, chip);
+            image::cut_program_page(values, masks, n as usize, bytes);
             return;
         }
     }
 }
 
-// The EEPROM's cycle ends whole.
-fn eeprom_whole(values: &mut [u8], masks: &mut [u8], chip: Eeprom)
-    ensures { λ _. ⌜ imageOf (now (values .exit)) (now (masks .exit)) ≡ eepromAfter Stroke.Whole chip (imageOf (now (values .entry)) (now (masks .entry))) ⌝ }
+fn erase_by(stroke: Stroke, values: &mut [u8], masks: &mut [u8])
+    ensures { λ _. ⌜ imageOf (now (values .exit)) (now (masks .exit)) ≡ eraseBy stroke (imageOf (now (values .entry)) (now (masks .entry))) ⌝ }
 {
-    let cycle = chip.cycle;
-    let page = chip.page;
-    match cycle {
-        EepromCycle::None => {
+    match stroke {
+        Stroke::Nothing => {
             return;
         }
-        EepromCycle::Write(s) => {
+        Stroke::Whole => {
+            image::erase(values, masks);
+            return;
+        }
+        Stroke::Cut => {
+            image::cut_erase(values, masks);
+            return;
+        }
+    }
+}
+
+// What a stroke makes of the flash's image, on the pages that it touches.
+pub(crate) fn change_flash(
+    stroke: Stroke,
+    pages: Pages,
+    chip: Flash,
+    values: &mut [u8],
+    masks: &mut [u8],
+)
+    ensures { λ _. ⌜ imageOf (now (values .exit)) (now (masks .exit)) ≡ onPages (programBy stroke (chip .page)) (eraseBy stroke) pages (imageOf (now (values .entry)) (now (masks .entry))) ⌝ }
+{
+    match pages {
+        Pages::None => {
+            return;
+        }
+        Pages::One(n) => {
+            let bytes = chip.page;
+            program_by(stroke, bytes, n, values, masks);
+            return;
+        }
+        Pages::All => {
+            erase_by(stroke, values, masks);
+            return;
+        }
+    }
+}
+
+// What was sent in a write; where none runs, no page is touched either.
+fn sent_in(cycle: EepromCycle) -> Sent
+    ensures { λ r. ⌜ r ≡ sentIn cycle ⌝ }
+{
+    match cycle {
+        EepromCycle::None => Sent {
+            page: 0,
+            first: 0,
+            count: 0,
+        },
+        EepromCycle::Write(s) => s,
+    }
+}
+
+fn store_by(
+    stroke: Stroke,
+    sent: Sent,
+    bytes: EepromPage,
+    n: u32,
+    values: &mut [u8],
+    masks: &mut [u8],
+)
+    ensures { λ _. ⌜ imageOf (now (values .exit)) (now (masks .exit)) ≡ storeBy stroke sent bytes n (imageOf (now (values .entry)) (now (masks .entry))) ⌝ }
+{
+    match stroke {
+        Stroke::Nothing => {
+            return;
+        }
+        Stroke::Whole => {
             image::store_page(
                 values,
                 masks,
-                s.page as usize,
-                s.first as usize,
-                s.count as usize,
-                page,
+                n as usize,
+                sent.first as usize,
+                sent.count as usize,
+                bytes,
             );
             return;
         }
-    }
-}
-
-// The supply cuts the EEPROM's cycle.
-fn eeprom_cut(values: &mut [u8], masks: &mut [u8], chip: Eeprom)
-    ensures { λ _. ⌜ imageOf (now (values .exit)) (now (masks .exit)) ≡ eepromAfter Stroke.Cut chip (imageOf (now (values .entry)) (now (masks .entry))) ⌝ }
-{
-    let cycle = chip.cycle;
-    match cycle {
-        EepromCycle::None => {
-            return;
-        }
-        EepromCycle::Write(s) => {
-            image::cut_store_page(values, masks, s.page as usize);
-            return;
-        }
-    }
-}
-
-pub(crate) fn change_eeprom(stroke: Stroke, values: &mut [u8], masks: &mut [u8], chip: Eeprom)
-    ensures { λ _. ⌜ imageOf (now (values .exit)) (now (masks .exit)) ≡ eepromAfter stroke chip (imageOf (now (values .entry)) (now (masks .entry))) ⌝ }
-{
-    match stroke {
-        Stroke::Nothing => {
-            return;
-        }
-        Stroke::Whole => {
-            eeprom_whole(values, masks, chip);
-            return;
-        }
         Stroke::Cut => {
-            eeprom_cut(values, masks, chip);
+            image::cut_store_page(values, masks, n as usize);
+            return;
+        }
+    }
+}
+
+// The same of the EEPROM's image; it has no erase.
+pub(crate) fn change_eeprom(
+    stroke: Stroke,
+    pages: Pages,
+    chip: Eeprom,
+    values: &mut [u8],
+    masks: &mut [u8],
+)
+    ensures { λ _. ⌜ imageOf (now (values .exit)) (now (masks .exit)) ≡ onPages (storeBy stroke (sentIn (chip .cycle)) (chip .page)) (λ i. i) pages (imageOf (now (values .entry)) (now (masks .entry))) ⌝ }
+{
+    match pages {
+        Pages::None => {
+            return;
+        }
+        Pages::One(n) => {
+            let cycle = chip.cycle;
+            let bytes = chip.page;
+            store_by(stroke, sent_in(cycle), bytes, n, values, masks);
+            return;
+        }
+        Pages::All => {
             return;
         }
     }

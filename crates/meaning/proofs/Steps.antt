@@ -81,6 +81,37 @@ module _ {A S R : Type 0} (m : Rules A S R) where
   first-holds rs s differ t h = h .1
   first-holds rs s lost t h = h .2
 
+  -- p records by the stamp t, all orders of which end alike, x one of them; k records above t: every allowed order of p and k goes by x's outcome
+  module _ (p : List A) (t : ℕ) (hp : All (λ (a : A). m .stamp a ≤ t) p) (s : S) (alike : Alike m p s) (x : List A) (ax : Allowed m p x) (k : List A) (hk : All (λ (a : A). t < m .stamp a) k) where
+    goes-by : (o : List A) → Allowed m (p ++ k) o → (y : List A) × Allowed m k y × (outcome m o s ≡ andThen (outcome m x s) (outcome m y (after m x s)))
+    unfolding Alike
+    goes-by o a =
+        let z = allowed-split m p k t hp hk o a in
+        let e = alike (z .0) x (z .2) ax in (
+          z .1,
+          z .3,
+          ap (λ (l : List A). outcome m l s) (z .4) ∙ outcome-append (z .0) (z .1) s
+              ∙ ap (λ (v : Outcome S R). andThen v (outcome m (z .1) (v .state))) e,
+        )
+
+    agreed-on : (w : Outcome S R) → Agreed m k (after m x s) w → Agreed m (p ++ k) s (andThen (outcome m x s) w)
+    unfolding Agreed
+    agreed-on w h o a =
+        let z = goes-by o a in
+        z .2 ∙ ap (andThen (outcome m x s)) (h (z .0) (z .1))
+
+    pub alike-on : Alike m k (after m x s) → Alike m (p ++ k) s
+    unfolding Alike
+    alike-on h o q a b =
+        let y = goes-by o a in
+        let z = goes-by q b in
+        y .2 ∙ ap (andThen (outcome m x s)) (h (y .0) (z .0) (y .1) (z .1)) ∙ sym (z .2)
+
+    pub on-alike : Alike m (p ++ k) s → Alike m k (after m x s)
+    unfolding Alike
+    on-alike h y z a b = then-cancel (outcome m x s) (outcome m y (after m x s)) (outcome m z (after m x s))
+        (sym (outcome-append x y s) ∙ h (x ++ y) (x ++ z) (allowed-append m p k x y t hp hk ax a) (allowed-append m p k x z t hp hk ax b) ∙ outcome-append x z s)
+
   module _ (p rest : List A) (t : ℕ) (hp : All (λ (a : A). m .stamp a ≡ t) p) (hr : All (λ (a : A). t < m .stamp a) rest) where
     -- the parts of p ++ rest by a stamp below t, at t, and above t
     rest-none : (q : A → Bool) → ((a : A) → t < m .stamp a → q a ≡ false) → filter q rest ≡ []
@@ -157,37 +188,6 @@ module _ {A S R : Type 0} (m : Rules A S R) where
         abbrev next : S
         next = after m x s
 
-        -- every allowed order of p and k goes by x's outcome
-        goes-by : (k : List A) → All (λ (a : A). t < m .stamp a) k → (o : List A) → Allowed m (p ++ k) o →
-            (y : List A) × Allowed m k y × (outcome m o s ≡ andThen (outcome m x s) (outcome m y next))
-        unfolding Alike
-        goes-by k hk o a =
-            let z = allowed-split m p k t hp≤ hk o a in
-            let e = alike (z .0) x (z .2) ax in (
-              z .1,
-              z .3,
-              ap (λ (l : List A). outcome m l s) (z .4) ∙ outcome-append (z .0) (z .1) s
-                  ∙ ap (λ (v : Outcome S R). andThen v (outcome m (z .1) (v .state))) e,
-            )
-
-        agreed-on : (k : List A) → All (λ (a : A). t < m .stamp a) k → (w : Outcome S R) → Agreed m k next w → Agreed m (p ++ k) s (andThen (outcome m x s) w)
-        unfolding Agreed
-        agreed-on k hk w h o a =
-            let z = goes-by k hk o a in
-            z .2 ∙ ap (andThen (outcome m x s)) (h (z .0) (z .1))
-
-        alike-on : (k : List A) → All (λ (a : A). t < m .stamp a) k → Alike m k next → Alike m (p ++ k) s
-        unfolding Alike
-        alike-on k hk h o q a b =
-            let y = goes-by k hk o a in
-            let z = goes-by k hk q b in
-            y .2 ∙ ap (andThen (outcome m x s)) (h (y .0) (z .0) (y .1) (z .1)) ∙ sym (z .2)
-
-        on-alike : (k : List A) → All (λ (a : A). t < m .stamp a) k → Alike m (p ++ k) s → Alike m k next
-        unfolding Alike
-        on-alike k hk h y z a b = then-cancel (outcome m x s) (outcome m y next) (outcome m z next)
-            (sym (outcome-append x y s) ∙ h (x ++ y) (x ++ z) (allowed-append m p k x y t hp≤ hk ax a) (allowed-append m p k x z t hp≤ hk ax b) ∙ outcome-append x z s)
-
         above-upto : (u : ℕ) → All (λ (a : A). t < m .stamp a) (upto m u rest)
         above-upto u = all-filter _ _ rest hr
 
@@ -195,15 +195,15 @@ module _ {A S R : Type 0} (m : Rules A S R) where
         holds-rest : (n : Reason) (u : ℕ) → t < u → Holds m (p ++ rest) s n u → Holds m rest next n u
         unfolding Holds Crowded Differ Lost
         holds-rest crowded u g h = rw (at-high u g) at h
-        holds-rest differ u g h = λ a. h (subst (λ (l : List A). Alike m l s) (sym (upto-high u g)) (alike-on (upto m u rest) (above-upto u) a))
+        holds-rest differ u g h = λ a. h (subst (λ (l : List A). Alike m l s) (sym (upto-high u g)) (alike-on p t hp≤ s alike x ax (upto m u rest) (above-upto u) a))
         holds-rest lost u g h =
-            let z = goes-by (upto m u rest) (above-upto u) (h .0) (subst (λ (l : List A). Allowed m l (h .0)) (upto-high u g) (h .1)) in
+            let z = goes-by p t hp≤ s alike x ax (upto m u rest) (above-upto u) (h .0) (subst (λ (l : List A). Allowed m l (h .0)) (upto-high u g) (h .1)) in
             (z .0, z .1, sym (ap (λ (v : Outcome S R). m .lost (v .state)) (z .2)) ∙ h .2)
 
         rest-holds : (n : Reason) (u : ℕ) → t < u → Holds m rest next n u → Holds m (p ++ rest) s n u
         unfolding Holds Crowded Differ Lost
         rest-holds crowded u g h = rw (at-high u g) h
-        rest-holds differ u g h = λ a. h (on-alike (upto m u rest) (above-upto u) (subst (λ (l : List A). Alike m l s) (upto-high u g) a))
+        rest-holds differ u g h = λ a. h (on-alike p t hp≤ s alike x ax (upto m u rest) (above-upto u) (subst (λ (l : List A). Alike m l s) (upto-high u g) a))
         rest-holds lost u g h = (
           x ++ h .0,
           subst (λ (l : List A). Allowed m l (x ++ h .0)) (sym (upto-high u g)) (allowed-append m p (upto m u rest) x (h .0) t hp≤ (above-upto u) ax (h .1)),
@@ -245,9 +245,9 @@ module _ {A S R : Type 0} (m : Rules A S R) where
 
         pub means-on : (y : Answer S R) → Means m rest next y → Means m (p ++ rest) s (goesOn (outcome m x s) y)
         unfolding Means goesOn
-        means-on (settled w) h = ((λ u. passes-all u (λ g. h .0 u)), agreed-on rest hr w (h .1))
+        means-on (settled w) h = ((λ u. passes-all u (λ g. h .0 u)), agreed-on p t hp≤ s alike x ax rest hr w (h .1))
         means-on (stopped n u w) h =
             let g = later n u (h .0 .here) in (
               record { here = rest-first n u g (h .0 .here); none-before = λ v l. passes-all v (λ k. h .0 .none-before v l) },
-              subst (λ (l : List A). Agreed m l s (andThen (outcome m x s) w)) (sym (before-high u g)) (agreed-on (before m u rest) (all-filter _ _ rest hr) w (h .1)),
+              subst (λ (l : List A). Agreed m l s (andThen (outcome m x s) w)) (sym (before-high u g)) (agreed-on p t hp≤ s alike x ax (before m u rest) (all-filter _ _ rest hr) w (h .1)),
             )

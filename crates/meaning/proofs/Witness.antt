@@ -1,4 +1,4 @@
--- Where outcomes can be told apart, orders that do not all end alike show two that differ: by going through all orders.
+-- Where it can be told whether two orders end alike, orders that do not all end alike show two that differ: by going through all orders.
 use mathlib.Core.Path.{_≡_, sym, _∙_}
 use mathlib.Core.List.{List, [], _∷_}
 use mathlib.Core.Logic.{_⊎_, inl, inr, ⊎-elim}
@@ -6,7 +6,7 @@ use Prim.Native.Nat.{ℕ, _≤_}
 use native.Mathlib.Omega.{arith}
 use Rattle.law.specs.Choice.{lt-or-le}
 use Rattle.law.specs.Words.{All, Rising}
-use Rattle.meaning.specs.Meaning.{Rules, Outcome, NeverBack, Allowed, outcome, upto, Alike, Differ}
+use Rattle.meaning.specs.Meaning.{Rules, NeverBack, Allowed, outcome, upto, Alike, Differ}
 use Rattle.meaning.proofs.Allowing.{itself, back-filter}
 use Rattle.meaning.proofs.AllOrders.{Keeps, orders, all-orders, orders-keep}
 
@@ -58,16 +58,15 @@ module _ {A S R : Type 0} (m : Rules A S R) where
         ⊎-elim (λ h. inl (λ o a. all-orders m rs (λ q. NeverBack m q → P q) h o (a .keeps) (a .onward))) (λ w. inr (fails rs (w .0) (w .1) (w .2) (tell-back (w .0))))
         (try (λ q. NeverBack m q → P q) (λ q. gives (tell-back q) (tell q)) (Keeps m rs) (orders m rs) (orders-keep m rs))
 
-  -- outcomes can be told apart
-  module _ (tell : (v w : Outcome S R) → One (v ≡ w)) where
+  module _ (s : S) (tell : (o q : List A) → One (outcome m o s ≡ outcome m q s)) where
     -- two allowed orders of the records so far differ
-    pub two-differ : (rs : List A) → NeverBack m rs → (s : S) (t : ℕ) → Differ m rs s t →
+    pub two-differ : (rs : List A) → NeverBack m rs → (t : ℕ) → Differ m rs s t →
         (o : List A) × (p : List A) × Allowed m (upto m t rs) o × Allowed m (upto m t rs) p × (outcome m o s ≡ outcome m p s → ⊥)
     unfolding Differ Alike
-    two-differ rs b s t h =
+    two-differ rs b t h =
         ⊎-elim (λ q. absurd (h (λ o p x y. q o x ∙ sym (q p y)))) (λ w. (w .0, upto m t rs, w .1, itself m _ (back-filter m _ rs b), w .2))
-        (every-allowed (λ o. outcome m o s ≡ outcome m (upto m t rs) s) (λ o. tell _ _) (upto m t rs))
+        (every-allowed (λ o. outcome m o s ≡ outcome m (upto m t rs) s) (λ o. tell o (upto m t rs)) (upto m t rs))
 
-    pub differ-two : (rs : List A) (s : S) (t : ℕ) (o p : List A) → Allowed m (upto m t rs) o → Allowed m (upto m t rs) p → (outcome m o s ≡ outcome m p s → ⊥) → Differ m rs s t
+    pub differ-two : (rs : List A) (t : ℕ) (o p : List A) → Allowed m (upto m t rs) o → Allowed m (upto m t rs) p → (outcome m o s ≡ outcome m p s → ⊥) → Differ m rs s t
     unfolding Differ Alike
-    differ-two rs s t o p a b n h = n (h o p a b)
+    differ-two rs t o p a b n h = n (h o p a b)

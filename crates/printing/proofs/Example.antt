@@ -23,7 +23,7 @@ use Rattle.demands.proofs.Shown.{means-lines}
 use Rattle.demands.proofs.Readable.{readable-back}
 use Rattle.demands.proofs.FourTexts.{listing-spelled, listing-written, listing-settled}
 use Rattle.listing.specs.Lines.{heading, byteText, replyText, matchText, recordLine, settledLine}
-use Rattle.printing.specs.Printed.{imagesFrom, allTaken, linesFrom, printedOf, Printed}
+use Rattle.printing.specs.Printed.{imagesFrom, allTaken, linesFrom, verdictLine, printedOf, Printed}
 use Rattle.printing.specs.Example.{noDumps, exampleListing, ExamplePrinted}
 use Rattle.printing.proofs.Some.{played-printed}
 
@@ -37,7 +37,7 @@ module _ (x : Images) where
   start = machineAtStart plain x
 
   example-of : (z : meaning.Answer Machine Reply) → Means (onMachine plain) (listing 0x00) start z → shown plain (listing 0x00) z .answer ≡ 0 → exampleListing ≡ printedOf plain (listing 0x00) z
-  unfolding printedOf shown shownAs
+  unfolding printedOf verdictLine shown shownAs
   example-of (meaning.settled v) m e =
       let k = means-lines plain (listing 0x00) (readable-back (listing-written 0x00 (omega arith) .reads)) start (meaning.settled v) m .1 in
       sym (ap (λ (ys : List Reply). heading ++ (linesFrom 0 (listing 0x00) ys ++ settledLine (countTwos (listing 0x00) ys))) k ∙ example-lines x)
@@ -49,4 +49,4 @@ example-printed =
     let w = listing-written 0x00 (omega arith) in
     let z = listing-settled (imagesFrom noDumps) 0x00 in
     subst (λ (text : List ℕ). Printed text noDumps exampleListing) listing-spelled
-    (played-printed _ noDumps refl (le-ltb _ _ (w .short)) plain (listing 0x00) (w .reads) exampleListing (z .0, z .1, example-of (imagesFrom noDumps) (z .0) (z .1) (z .2)))
+    (played-printed printedOf _ noDumps refl (le-ltb _ _ (w .short)) plain (listing 0x00) (w .reads) exampleListing (z .0, z .1, example-of (imagesFrom noDumps) (z .0) (z .1) (z .2)))

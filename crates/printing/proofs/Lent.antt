@@ -15,16 +15,17 @@ use Rattle.cell.specs.Rules.{Disjoint}
 use Rattle.record.specs.declared.Chip.{Chip}
 use Rattle.record.specs.declared.Chip.the-variants.{Flash, Eeprom}
 use Rattle.record.specs.Lengths.{repliesLength, resultLength}
+use Rattle.times.specs.Times.{timesLength}
 use Rattle.image.specs.Image.{Image, imageOf, spans, Clean}
 use Rattle.image.specs.Images.{imagesOf, keptBytes, imageAt}
 use Rattle.image.proofs.Each.{chip-by-chip, all-chips}
 use Rattle.image.proofs.Fitting.{lengths-span, spans-values}
 use Rattle.buffers.specs.Buffers.{Buffers, buffersOf, fit}
 use Rattle.buffers.proofs.Fit.{fit-says, fit-only}
+use Rattle.call.specs.Replay.{Ended, Replays}
 use Rattle.printing.specs.Printed.{Dumps, dumpsOf, dumpAt, unknown, imageFrom, imagesFrom, taken, allTaken}
-use Rattle.printing.specs.Lending.{lentFor}
+use Rattle.printing.specs.Lending.{lentFor, LentFor, LeftFor}
 use Rattle.printing.proofs.Copying.{take-whole}
-use Rattle.printing.proofs.Dumped.{LentFor}
 use Rattle.demands.proofs.Disjoint.{zeros-at}
 
 -- ---- `take_dump`: no dump, one of another length, and one that is taken
@@ -98,7 +99,7 @@ some-kept Eeprom = omega arith
 
 -- ---- both
 module _ (d : Dumps) (x : Buffers) (lent : (chip : Chip) → imageAt chip (x .images) ≡ lentFor (dumpAt chip d .there) (dumpAt chip d .bytes) (unknown chip))
-    (replies : length (x .replies) ≡ repliesLength) (result : length (x .result) ≡ resultLength) where
+    (times : length (x .times) ≡ timesLength) (replies : length (x .replies) ≡ repliesLength) (result : length (x .result) ≡ resultLength) where
   taken-one : fit x ≡ true → (chip : Chip) → taken chip (dumpAt chip d) ≡ true
   taken-one f chip =
       lent-right (keptBytes chip) (some-kept chip) (dumpAt chip d .there) (dumpAt chip d .bytes) (subst (λ (i : Image). spans (keptBytes chip) i ≡ true) (lent chip) (fit-says x f .kept chip))
@@ -115,6 +116,7 @@ module _ (d : Dumps) (x : Buffers) (lent : (chip : Chip) → imageAt chip (x .im
     fits =
         fit-only x (record {
           kept = λ chip. subst (λ (i : Image). spans (keptBytes chip) i ≡ true) (sym (image-is chip)) (from-spans (keptBytes chip) (dumpAt chip d .there) (dumpAt chip d .bytes) (each chip));
+          times-long = times;
           replies-long = replies;
           result-long = result;
           clean = λ chip. subst Clean (sym (image-is chip)) (from-clean (keptBytes chip) (dumpAt chip d .there) (dumpAt chip d .bytes));
@@ -128,15 +130,20 @@ module _ (d : Dumps) (x : Buffers) (lent : (chip : Chip) → imageAt chip (x .im
   lent-for = record {
     taken = λ t. (fits t, images-are t);
     not-taken = λ t. split (fit x) (λ f. absurd (true-not-false (sym (all-chips (λ chip. taken chip (dumpAt chip d)) (taken-one f)) ∙ t))) (λ f. f);
+    times = times;
     replies = replies;
     result = result;
   }
 
 -- the same by the parts that are lent, chip by chip
-module _ (ft et : Bool) (fb eb fv fm ev em replies result : List ℕ) (flash : imageOf fv fm ≡ lentFor ft fb (unknown Flash)) (eeprom : imageOf ev em ≡ lentFor et eb (unknown Eeprom)) where
+module _ (ft et : Bool) (fb eb fv fm ev em times replies result : List ℕ) (flash : imageOf fv fm ≡ lentFor ft fb (unknown Flash)) (eeprom : imageOf ev em ≡ lentFor et eb (unknown Eeprom)) where
   by-chip : (chip : Chip) → imageAt chip (imagesOf fv fm ev em) ≡ lentFor (dumpAt chip (dumpsOf ft fb et eb) .there) (dumpAt chip (dumpsOf ft fb et eb) .bytes) (unknown chip)
   by-chip Flash = flash
   by-chip Eeprom = eeprom
 
-  pub lent-parts : length replies ≡ repliesLength → length result ≡ resultLength → LentFor (dumpsOf ft fb et eb) (buffersOf fv fm ev em replies result)
-  lent-parts r l = lent-for (dumpsOf ft fb et eb) (buffersOf fv fm ev em replies result) by-chip r l
+  pub lent-parts : length times ≡ timesLength → length replies ≡ repliesLength → length result ≡ resultLength → LentFor (dumpsOf ft fb et eb) (buffersOf fv fm ev em times replies result)
+  lent-parts t r l = lent-for (dumpsOf ft fb et eb) (buffersOf fv fm ev em times replies result) by-chip t r l
+
+-- and what the call leaves of them
+pub left-for : {text : List ℕ} {d : Dumps} {x : Buffers} {e : Ended} → LentFor d x → Replays text x e → LeftFor text d (e .buffers .times) (e .buffers .replies) (e .buffers .result)
+left-for {x = x} {e = e} l p = record { lent = x; ended = e; is-lent = l; is-ended = p; times-are = refl; replies-are = refl; result-is = refl }

@@ -2,7 +2,9 @@
 pub mod Front
 pub mod Replies
 pub mod Numbers
+pub mod Pages
 pub mod Shown
+pub mod Says
 pub mod Joined
 pub mod Dumped
 pub mod One
@@ -12,3 +14,4 @@ pub mod Some
 pub mod Example
 pub mod StopExample
 pub mod RefusedExample
+pub mod WrittenExample

@@ -8,7 +8,7 @@ use Rattle.demands.proofs.Result.{word-back}
 use Rattle.listing.specs.Bytes.{numberAt, answerIn, placeIn, countIn, fieldIn}
 
 -- four bytes, low byte first, are that number
-four-back : (a : ℕ) → a ≤ largest → a % 256 + 256 * (a / 256 % 256 + 256 * (a / 65536 % 256 + 256 * (a / 16777216 % 256))) ≡ a
+pub four-back : (a : ℕ) → a ≤ largest → a % 256 + 256 * (a / 256 % 256 + 256 * (a / 65536 % 256 + 256 * (a / 16777216 % 256))) ≡ a
 four-back a h = omega (arith, word-back a h)
 
 module _ (a n c k : ℕ) where

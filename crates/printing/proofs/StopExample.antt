@@ -30,7 +30,7 @@ use Rattle.record.specs.Records.{onF, onL}
 use Rattle.demands.specs.Bench.{plain}
 use Rattle.demands.proofs.OneStamp.{one-channel, stamp-passes}
 use Rattle.listing.specs.Lines.{heading, replyText, matchText, recordLine, stopLine}
-use Rattle.printing.specs.Printed.{imagesFrom, allTaken, linesFrom, printedOf}
+use Rattle.printing.specs.Printed.{imagesFrom, allTaken, linesFrom, verdictLine, printedOf}
 use Rattle.printing.specs.Example.{noDumps, stopText, stopListing, StopPrinted}
 use Rattle.printing.proofs.Some.{played-printed}
 
@@ -75,9 +75,9 @@ module _ (x : Images) where
       (one-channel (onMachine plain) F opens (refl, tt) (machineAtStart plain x)) refl _ next
 
   listed : stopListing ≡ printedOf plain all answer
-  unfolding heading printedOf linesFrom stopLine recordLine replyText matchText decimal digitsIn goesOn filter keep laid replies after playOn saysOn movedOf delivered compared flashAfter eepromAfter
+  unfolding heading printedOf verdictLine linesFrom stopLine recordLine replyText matchText decimal digitsIn goesOn filter keep laid replies after playOn saysOn movedOf delivered compared flashAfter eepromAfter
   listed = refl
 
 pub stop-printed : StopPrinted
 unfolding allTaken
-stop-printed = played-printed stopText noDumps refl refl plain all readable stopListing (answer (imagesFrom noDumps), answered (imagesFrom noDumps), listed (imagesFrom noDumps))
+stop-printed = played-printed printedOf stopText noDumps refl refl plain all readable stopListing (answer (imagesFrom noDumps), answered (imagesFrom noDumps), listed (imagesFrom noDumps))

@@ -1,4 +1,4 @@
--- Believed: What is printed of a text and of the dumps (document 01, 'One listing in full', 'Bytes and doubt'; document 02, request 2/12).
+-- Believed: What is printed of a text and of the dumps (document 01, 'One listing in full', 'Bytes and doubt'; document 02, requests 1/12 and 2/12).
 use Prim.Native.Nat.{ℕ, suc, _+_, _≤_, _<_}
 use mathlib.Core.Path.{_≡_}
 use mathlib.Core.Bool.{Bool, true, false}
@@ -25,6 +25,7 @@ use Rattle.text.specs.Texts.{textLimit, Readable, Refused}
 use Rattle.call.specs.Replay.{countTwos, reasonAnswer}
 use Rattle.listing.specs.Lines.{heading, recordLine, settledLine, stopLine, refusedLine}
 use Rattle.listing.specs.Listing.{listingRoom}
+use Rattle.listing.specs.Pages.{pagesHeading, writtenLines}
 
 -- ---- the dumps
 -- a chip's dump: is there one, and its bytes
@@ -67,22 +68,41 @@ linesFrom k [] ys = []
 linesFrom k (r ∷ rs) [] = []
 linesFrom k (r ∷ rs) (y ∷ ys) = recordLine (k + 2) (r .stamp) y (compared (r .event) y) ++ linesFrom (suc k) rs ys
 
--- heading, lines, and last `settled` and count, or `stop`, number and stamp; 'Records from a stop's stamp on are left out'
-unfoldable pub printedOf : Board → List Record → meaning.Answer Machine Reply → List ℕ
-printedOf b rs (meaning.settled v) =
-    heading ++ (linesFrom 0 rs (shownAt (onMachine b) rs v) ++ settledLine (countTwos rs (shownAt (onMachine b) rs v)))
+-- last `settled` and count, or `stop`, number and stamp
+unfoldable pub verdictLine : Board → List Record → meaning.Answer Machine Reply → List ℕ
+verdictLine b rs (meaning.settled v) = settledLine (countTwos rs (shownAt (onMachine b) rs v))
+verdictLine b rs (meaning.stopped n t v) = stopLine (answerNumber (reasonAnswer n)) t
+
+-- what is printed of an answer of demand 3 to the records
+abbrev pub Kind : Type 0
+Kind = Board → List Record → meaning.Answer Machine Reply → List ℕ
+
+-- by `print_replay`: heading, lines, last line; 'Records from a stop's stamp on are left out'
+unfoldable pub printedOf : Kind
+printedOf b rs (meaning.settled v) = heading ++ (linesFrom 0 rs (shownAt (onMachine b) rs v) ++ verdictLine b rs (meaning.settled v))
 printedOf b rs (meaning.stopped n t v) =
     let shown = before (onMachine b) t rs in
-    heading ++ (linesFrom 0 shown (shownAt (onMachine b) shown v) ++ stopLine (answerNumber (reasonAnswer n)) t)
+    heading ++ (linesFrom 0 shown (shownAt (onMachine b) shown v) ++ verdictLine b rs (meaning.stopped n t v))
+
+-- by `print_pages`: its heading, the pages written as they are left at the end or before the stop's stamp, and the same last line
+unfoldable pub pagesPrintedOf : Kind
+pagesPrintedOf b rs (meaning.settled v) = pagesHeading ++ (writtenLines (v .state .times) ++ verdictLine b rs (meaning.settled v))
+pagesPrintedOf b rs (meaning.stopped n t v) = pagesHeading ++ (writtenLines (v .state .times) ++ verdictLine b rs (meaning.stopped n t v))
 
 -- The bytes p are what is printed, in the order of the checks: 'alone `refused`, number, line (0 for 1 and 2)', and fourth the field (0 for all but 3); else what
--- demand 3 says of the records, played from the dumps' images.
-pub record Printed (text : List ℕ) (d : Dumps) (p : List ℕ) : Type 0 where
+-- is printed of what demand 3 says of the records, played from the dumps' images.
+pub record PrintedAs (of : Kind) (text : List ℕ) (d : Dumps) (p : List ℕ) : Type 0 where
   pub unfit : allTaken d ≡ false → p ≡ refusedLine (answerNumber BadBuffers) 0 0
   pub long : allTaken d ≡ true → ltb textLimit (length text) ≡ true → p ≡ refusedLine (answerNumber TooLong) 0 0
   pub bad : allTaken d ≡ true → ltb textLimit (length text) ≡ false → (a : Answer) (n f : ℕ) → Refused text a n f → p ≡ refusedLine (answerNumber a) n f
   pub played : allTaken d ≡ true → ltb textLimit (length text) ≡ false → (b : Board) (rs : List Record) → Readable text b rs →
-      (z : meaning.Answer Machine Reply) × Means (onMachine b) rs (machineAtStart b (imagesFrom d)) z × (p ≡ printedOf b rs z)
+      (z : meaning.Answer Machine Reply) × Means (onMachine b) rs (machineAtStart b (imagesFrom d)) z × (p ≡ of b rs z)
+
+abbrev pub Printed : List ℕ → Dumps → List ℕ → Type 0
+Printed = PrintedAs printedOf
+
+abbrev pub PagesPrinted : List ℕ → Dumps → List ℕ → Type 0
+PagesPrinted = PrintedAs pagesPrintedOf
 
 -- The bytes w are written out: they stand at the front of the output, the rest of which stays, and n is their number.
 pub record Written (w old new : List ℕ) (n : ℕ) : Type 0 where
@@ -90,8 +110,14 @@ pub record Written (w old new : List ℕ) (n : ℕ) : Type 0 where
   pub content : new ≡ w ++ drop (length w) old
 
 -- What is printed is written out; an output that has no room for any listing stays as it was, and n is 0.
-pub record Prints (text : List ℕ) (d : Dumps) (old new : List ℕ) (n : ℕ) : Type 0 where
+pub record PrintsAs (of : Kind) (text : List ℕ) (d : Dumps) (old new : List ℕ) (n : ℕ) : Type 0 where
   pub printed : List ℕ
-  pub is : Printed text d printed
+  pub is : PrintedAs of text d printed
   pub written : listingRoom ≤ length old → Written printed old new n
   pub short : length old < listingRoom → (n ≡ 0) × (new ≡ old)
+
+abbrev pub Prints : List ℕ → Dumps → List ℕ → List ℕ → ℕ → Type 0
+Prints = PrintsAs printedOf
+
+abbrev pub PrintsPages : List ℕ → Dumps → List ℕ → List ℕ → ℕ → Type 0
+PrintsPages = PrintsAs pagesPrintedOf

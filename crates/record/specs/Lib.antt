@@ -8,3 +8,4 @@ pub mod LineRules
 pub mod Status
 pub mod Told
 pub mod Records
+pub mod Word

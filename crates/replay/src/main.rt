@@ -1,6 +1,4 @@
 // Reads trace.tsv and the dumps of the current folder and prints the listing of the replay (document 01, 'One listing in full').
-mod files;
-
 use files::File;
 use libc::STDOUT_FILENO;
 

@@ -1,5 +1,5 @@
 -- What the call leaves, by what its tests said.
-use mathlib.Core.Path.{_≡_, refl, sym, ap, subst, _∙_}
+use mathlib.Core.Path.{_≡_, refl, sym, ap, subst, subst₂, _∙_}
 use mathlib.Core.Bool.{Bool, true, false}
 use mathlib.Core.List.{List}
 use Prim.Native.Nat.{ℕ}
@@ -15,27 +15,28 @@ use Rattle.line.specs.Boards.{spelledBoard}
 use Rattle.text.specs.declared.checking.Checked.{Checked}
 use Rattle.text.specs.Texts.{textLimit, Checks}
 use Rattle.record.specs.Lengths.{repliesLength, resultLength}
+use Rattle.times.specs.Times.{timesLength}
 use Rattle.buffers.specs.Buffers.{Buffers, fit, resultBytes, resultAfter}
 use Rattle.buffers.proofs.Result.{result-written}
 use Rattle.call.specs.Replay.{Ended, endedAs, refusedAs, Replays}
 use Rattle.call.specs.Run.{endedWith, Runs}
 
 -- ---- after the loop the result is written
-pub runs-written : (text : List ℕ) (first : ℕ) (b : Board) (x : Images) (old : List ℕ) (a : Answer) (t c n : ℕ) (y : Images) (left res res′ : List ℕ) →
-    Runs text first b x old (endedWith a t c y left) → old ≡ replicate repliesLength 0 → n ≡ answerNumber a → res′ ≡ resultAfter n t c 0 res → length res ≡ resultLength →
-    Runs text first b x (replicate repliesLength 0) (endedAs n (record { images = y; replies = left; result = res′ }))
-runs-written text first b x old a t c n y left res res′ r z h w l =
+pub runs-written : (text : List ℕ) (first : ℕ) (b : Board) (x : Images) (never old : List ℕ) (a : Answer) (t c n : ℕ) (y : Images) (noted left res res′ : List ℕ) →
+    Runs text first b x never old (endedWith a t c y noted left) → never ≡ replicate timesLength 0 → old ≡ replicate repliesLength 0 → n ≡ answerNumber a → res′ ≡ resultAfter n t c 0 res → length res ≡ resultLength →
+    Runs text first b x (replicate timesLength 0) (replicate repliesLength 0) (endedAs n (record { images = y; times = noted; replies = left; result = res′ }))
+runs-written text first b x never old a t c n y noted left res res′ r v z h w l =
     let k = w ∙ result-written n t c 0 res l in
-    subst (λ (k : Ended). Runs text first b x (replicate repliesLength 0) k)
-    (λ i. endedAs (sym h i) (record { images = y; replies = left; result = sym (k ∙ ap (λ (m : ℕ). resultBytes m t c 0) h) i }))
-    (subst (λ (l : List ℕ). Runs text first b x l (endedWith a t c y left)) z r)
+    subst (λ (k : Ended). Runs text first b x (replicate timesLength 0) (replicate repliesLength 0) k)
+    (λ i. endedAs (sym h i) (record { images = y; times = noted; replies = left; result = sym (k ∙ ap (λ (m : ℕ). resultBytes m t c 0) h) i }))
+    (subst₂ (λ (u l : List ℕ). Runs text first b x u l (endedWith a t c y noted left)) v z r)
 
 clash : {A : Type 0} {t : Bool} → t ≡ true → t ≡ false → A
 clash h k = absurd (true-not-false (sym h ∙ k))
 
 -- ---- refusals
 abbrev refusal : ℕ → Buffers → List ℕ → Ended
-refusal n x res = endedAs n (record { images = x .images; replies = x .replies; result = res })
+refusal n x res = endedAs n (record { images = x .images; times = x .times; replies = x .replies; result = res })
 
 refusal-is : (a : Answer) (line field n : ℕ) (x : Buffers) (res : List ℕ) → n ≡ answerNumber a → res ≡ resultAfter (answerNumber a) line 0 field (x .result) → refusal n x res ≡ refusedAs a line field x
 unfolding refusedAs
@@ -98,7 +99,7 @@ module _ (text : List ℕ) (x : Buffers) where
         read = λ k l. checks .only;
       }
 
-      pub replays-played : (b : Board) (c : Cursor) → r ≡ Checked.Readable b c → (e : Ended) → Runs text (c .at) b (x .images) (replicate repliesLength 0) e → Replays text x e
+      pub replays-played : (b : Board) (c : Cursor) → r ≡ Checked.Readable b c → (e : Ended) → Runs text (c .at) b (x .images) (replicate timesLength 0) (replicate repliesLength 0) e → Replays text x e
       replays-played b c is e runs = record {
         unfit = λ k. clash fits k;
         long = λ k l. clash l short;
@@ -107,7 +108,7 @@ module _ (text : List ℕ) (x : Buffers) where
             let h = sym (checks .readable d rs q) ∙ is in
             let same-board : d ≡ b = ap (boardOf d) h in
             let same-place : length (spelledBoard d) ≡ c .at = ap placeOf h in
-            let go = subst (λ (y : Board). Runs text (c .at) y (x .images) (replicate repliesLength 0) e) (sym same-board) runs in
-            go .runs rs q (sym same-place) refl;
+            let go = subst (λ (y : Board). Runs text (c .at) y (x .images) (replicate timesLength 0) (replicate repliesLength 0) e) (sym same-board) runs in
+            go .runs rs q (sym same-place) refl refl;
         read = λ k l. checks .only;
       }

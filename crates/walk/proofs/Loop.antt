@@ -19,6 +19,7 @@ use Rattle.orders.specs.Verdicts.{verdictAnswer}
 use Rattle.text.specs.Texts.{Readable, textLimit}
 use Rattle.text.proofs.Theorems.{replies-fit}
 use Rattle.record.specs.Lengths.{repliesLength}
+use Rattle.times.specs.Times.{timesLength}
 use Rattle.stamps.specs.declared.Judgement.{Judgement}
 use Rattle.stamps.specs.Judging.{JudgesAt}
 use Rattle.stamps.proofs.Found.{found-at}
@@ -32,34 +33,34 @@ goes-passes verdict.Differ e = absurd (true-not-false (sym e))
 goes-passes verdict.Lost e = absurd (true-not-false (sym e))
 goes-passes verdict.Passes e = refl
 
-module _ (text : List ℕ) (first : ℕ) (b : Board) (x : Images) (replies : List ℕ) where
+module _ (text : List ℕ) (first : ℕ) (b : Board) (x : Images) (times replies : List ℕ) where
   -- the loop has come to a place, whatever the text is readable as
   unfoldable pub ComesTo : ℕ → Desk → Type 0
-  ComesTo place d = (rs : List Record) (q : Readable text b rs) → first ≡ length (spelledBoard b) → replies ≡ replicate repliesLength 0 → Reaching text b rs x q place d
+  ComesTo place d = (rs : List Record) (q : Readable text b rs) → first ≡ length (spelledBoard b) → times ≡ replicate timesLength 0 → replies ≡ replicate repliesLength 0 → Reaching text b rs x q place d
 
-  pub comes-first : (c : Controls) → c ≡ startOf b → ComesTo first (deskOf c x replies 0 0)
+  pub comes-first : (c : Controls) → c ≡ startOf b → ComesTo first (deskOf c x times replies 0 0)
   unfolding ComesTo
-  comes-first c h rs q l z =
-      subst (Reaching text b rs x q first) (λ i. deskOf (sym h i) x (sym z i) 0 0) (reaching-starts text b rs x q first l)
+  comes-first c h rs q l w z =
+      subst (Reaching text b rs x q first) (λ i. deskOf (sym h i) x (sym w i) (sym z i) 0 0) (reaching-starts text b rs x q first l)
 
-  module _ (short : length text ≤ textLimit) (place : ℕ) (c : Controls) (y : Images) (old : List ℕ) (number count : ℕ) (here : ComesTo place (deskOf c y old number count)) where
-    pub runs-out : length text ≤ place → Runs text first b x replies (endedWith Answer.Settled 0 count y old)
+  module _ (short : length text ≤ textLimit) (place : ℕ) (c : Controls) (y : Images) (noted old : List ℕ) (number count : ℕ) (here : ComesTo place (deskOf c y noted old number count)) where
+    pub runs-out : length text ≤ place → Runs text first b x times replies (endedWith Answer.Settled 0 count y noted old)
     unfolding ComesTo
-    runs-out l = record { runs = λ rs q h z. reaching-ends text b rs x q (replies-fit q short) place _ (here rs q h z) l }
+    runs-out l = record { runs = λ rs q h w z. reaching-ends text b rs x q (replies-fit q short) place _ (here rs q h w z) l }
 
     module _ (inside : place < length text) (j : Judgement) (judges : JudgesAt text place b c j) where
-      pub runs-stops : goesOn (j .verdict) ≡ false → (a : Answer) → a ≡ verdictAnswer (j .verdict) → Runs text first b x replies (endedWith a (j .stamp) count y old)
+      pub runs-stops : goesOn (j .verdict) ≡ false → (a : Answer) → a ≡ verdictAnswer (j .verdict) → Runs text first b x times replies (endedWith a (j .stamp) count y noted old)
       unfolding ComesTo
       runs-stops g a s = record {
-        runs = λ rs q h z.
-            let r = here rs q h z in
+        runs = λ rs q h w z.
+            let r = here rs q h w z in
             let k = found-at judges (r .rest) (r .ok) (r .left) inside in
             rw s (reaching-stops text b rs x q (replies-fit q short) place _ r c refl j k g);
       }
 
-      pub comes-next : goesOn (j .verdict) ≡ true → (d : Desk) (n : ℕ) → n ≡ min (j .count) mostInAll → d ≡ runDesk b (take n (j .records)) (deskOf c y old number count) → ComesTo (j .next) d
+      pub comes-next : goesOn (j .verdict) ≡ true → (d : Desk) (n : ℕ) → n ≡ min (j .count) mostInAll → d ≡ runDesk b (take n (j .records)) (deskOf c y noted old number count) → ComesTo (j .next) d
       unfolding ComesTo
-      comes-next g d n m s rs q h z =
-          let r = here rs q h z in
+      comes-next g d n m s rs q h w z =
+          let r = here rs q h w z in
           let k = found-at judges (r .rest) (r .ok) (r .left) inside in
-          reaching-passes text b rs x q (replies-fit q short) place _ r c refl j k g d (s ∙ ap (λ (w : ℕ). runDesk b (take w (j .records)) (deskOf c y old number count)) m)
+          reaching-passes text b rs x q (replies-fit q short) place _ r c refl j k g d (s ∙ ap (λ (k : ℕ). runDesk b (take k (j .records)) (deskOf c y noted old number count)) m)

@@ -37,18 +37,20 @@ use Rattle.text.proofs.Theorems.{first-place, at-end}
 use Rattle.enough.specs.Enough.{Good}
 use Rattle.enough.proofs.Enough.{good-start, good-after, holds-all, few-each, too-many, not-crowded, agree-alike, alike-agree, as-written, lost-as}
 use Rattle.record.specs.Lengths.{repliesLength}
+use Rattle.times.specs.Times.{neverWritten, timesLength, timeBytes}
+use Rattle.times.proofs.Spelled.{never-spelled}
 use Rattle.buffers.specs.Buffers.{resultBytes}
 use Rattle.stamps.specs.declared.Judgement.{Judgement}
 use Rattle.stamps.proofs.Found.{Found}
 use Rattle.call.specs.Steps.{Desk, deskOf, runDesk}
 use Rattle.call.specs.Replay.{Ended, endedAs, replyLines, countTwos, padded, shownAs, shown, reasonAnswer}
 use Rattle.call.specs.Run.{endedWith, goesOn}
-use Rattle.call.proofs.Playing.{run-machine, run-append, run-count, run-replies}
+use Rattle.call.proofs.Playing.{machineOn, run-machine, run-times, run-append, run-count, run-replies}
 
 -- ---- what is shown of records played as they are written
 module _ (b : Board) (lent : Images) where
   abbrev pub started : Desk
-  started = deskOf (startOf b) lent (replicate repliesLength 0) 0 0
+  started = deskOf (startOf b) lent (replicate timesLength 0) (replicate repliesLength 0) 0 0
 
   abbrev pub start : Machine
   start = machineAtStart b lent
@@ -58,21 +60,26 @@ module _ (b : Board) (lent : Images) where
   lines-long [] s = refl
   lines-long (r ∷ o) s = let ih = lines-long o (onMachine b .play s r) in omega arith
 
+  -- the desk holds the machine after the records
+  pub desk-is : (o : List Record) (d : Desk) → d ≡ runDesk b o started → machineOn b d (after (onMachine b) o start .times) ≡ after (onMachine b) o start
+  desk-is o d p = ap (λ (x : Desk). machineOn b x (after (onMachine b) o start .times)) p ∙ run-machine b o started neverWritten
+
   pub shows : (n t : ℕ) (o : List Record) (d : Desk) → d ≡ runDesk b o started → 4 * length o ≤ repliesLength →
-      endedAs n (record { images = d .machine .images; replies = d .replies; result = resultBytes n t (d .count) 0 }) ≡ shownAs b n t o (outcome (onMachine b) o start)
+      endedAs n (record { images = d .images; times = d .times; replies = d .replies; result = resultBytes n t (d .count) 0 }) ≡ shownAs b n t o (outcome (onMachine b) o start)
   unfolding shownAs padded
   shows n t o d p l =
-      let m : d .machine ≡ after (onMachine b) o start = ap (λ (x : Desk). x .machine) p ∙ run-machine b o started in
+      let m = desk-is o d p in
+      let f : d .times ≡ timeBytes (after (onMachine b) o start .times) = ap (λ (x : Desk). x .times) p ∙ run-times b o started neverWritten (sym never-spelled) in
       let y : said (onMachine b) o start ≡ shownAt (onMachine b) o (outcome (onMachine b) o start) = sym (laid-said (onMachine b) o start) in
       let c : d .count ≡ countTwos o (shownAt (onMachine b) o (outcome (onMachine b) o start)) =
-      ap (λ (x : Desk). x .count) p ∙ run-count b o started ∙ omega arith ∙ ap (countTwos o) y in
+      ap (λ (x : Desk). x .count) p ∙ run-count b o started neverWritten ∙ omega arith ∙ ap (countTwos o) y in
       let k : repliesLength ≡ 4 * length o + (repliesLength - 4 * length o) = omega arith in
       let g : d .replies ≡ replyLines o (said (onMachine b) o start) ++ replicate (repliesLength - 4 * length o) 0 =
       ap (λ (x : Desk). x .replies) p
-      ∙ run-replies b o started [] (repliesLength - 4 * length o) (ap (λ (x : ℕ). replicate x 0) k) refl (length-replicate {A = ℕ} repliesLength 0) (omega arith) in
+      ∙ run-replies b o started neverWritten [] (repliesLength - 4 * length o) (ap (λ (x : ℕ). replicate x 0) k) refl (length-replicate {A = ℕ} repliesLength 0) (omega arith) in
       let h = g ∙ ap (λ (x : ℕ). replyLines o (said (onMachine b) o start) ++ replicate (repliesLength - x) 0) (sym (lines-long o start))
       ∙ ap (λ (ys : List Reply). replyLines o ys ++ replicate (repliesLength - length (replyLines o ys)) 0) y in
-      λ i. endedAs n (record { images = m i .images; replies = h i; result = resultBytes n t (c i) 0 })
+      λ i. endedAs n (record { images = m i .images; times = f i; replies = h i; result = resultBytes n t (c i) 0 })
 
 -- ---- the loop has come to the place with the desk d
 module _ (text : List ℕ) (b : Board) (rs : List Record) (lent : Images) (readable : Readable text b rs) where
@@ -110,11 +117,11 @@ module _ (text : List ℕ) (b : Board) (rs : List Record) (lent : Images) (reada
     done-few : 4 * length (r .done) ≤ repliesLength
     done-few = omega (arith, ap length (r .whole), length-append (r .done) (r .rest))
 
-    machine-is : d .machine ≡ after (onMachine b) (r .done) (start b lent)
-    machine-is = ap (λ (x : Desk). x .machine) (r .played) ∙ run-machine b (r .done) (started b lent)
+    controls-is : d .controls ≡ after (onMachine b) (r .done) (start b lent) .controls
+    controls-is = ap (λ (k : Machine). k .controls) (desk-is b lent (r .done) d (r .played))
 
     -- the text ends here
-    pub reaching-ends : length text ≤ place → Answered (endedWith Answer.Settled 0 (d .count) (d .machine .images) (d .replies))
+    pub reaching-ends : length text ≤ place → Answered (endedWith Answer.Settled 0 (d .count) (d .images) (d .times) (d .replies))
     unfolding shown
     reaching-ends h =
         let n : r .rest ≡ [] = at-end text place (r .rest) (r .left) h (r .ok) in
@@ -124,7 +131,7 @@ module _ (text : List ℕ) (b : Board) (rs : List Record) (lent : Images) (reada
           shows b lent 0 0 (r .done) d (r .played) done-few ∙ ap (λ (l : List Record). shownAs b 0 0 l (outcome (onMachine b) (r .done) (start b lent))) (sym w),
         )
 
-    module _ (c : Controls) (here : d .machine .controls ≡ c) (j : Judgement) (x : Found text b c (r .rest) j) where
+    module _ (c : Controls) (here : d .controls ≡ c) (j : Judgement) (x : Found text b c (r .rest) j) where
       abbrev p : List Record
       p = x .first ∷ x .others
 
@@ -132,7 +139,7 @@ module _ (text : List ℕ) (b : Board) (rs : List Record) (lent : Images) (reada
       m = after (onMachine b) (r .done) (start b lent)
 
       controls-are : c ≡ m .controls
-      controls-are = sym here ∙ ap (λ (k : Machine). k .controls) machine-is
+      controls-are = sym here ∙ controls-is
 
       good : Good (m .controls)
       good = good-after b (r .done) (start b lent) (good-start b (readable .board .0 .0))
@@ -176,7 +183,7 @@ module _ (text : List ℕ) (b : Board) (rs : List Record) (lent : Images) (reada
       reached-here = subst (λ (l : List Record). Reached (onMachine b) rs (start b lent) l (outcome (onMachine b) (r .done) (start b lent))) (x .whole) (r .reached)
 
       stops : (n : Reason) → Means (onMachine b) (p ++ x .rest) m (meaning.stopped n (j .stamp) (outcome (onMachine b) [] m)) →
-          Answered (endedWith (reasonAnswer n) (j .stamp) (d .count) (d .machine .images) (d .replies))
+          Answered (endedWith (reasonAnswer n) (j .stamp) (d .count) (d .images) (d .times) (d .replies))
       unfolding shown
       stops n h = (
         meaning.stopped n (j .stamp) (outcome (onMachine b) (r .done) (start b lent)),
@@ -185,7 +192,7 @@ module _ (text : List ℕ) (b : Board) (rs : List Record) (lent : Images) (reada
             ∙ ap (λ (l : List Record). shownAs b (answerNumber (reasonAnswer n)) (j .stamp) l (outcome (onMachine b) (r .done) (start b lent))) (sym before-is),
       )
 
-      stops-by : (v : Verdict) → Judged b (x .held) (m .controls) v → goesOn v ≡ false → Answered (endedWith (verdictAnswer v) (j .stamp) (d .count) (d .machine .images) (d .replies))
+      stops-by : (v : Verdict) → Judged b (x .held) (m .controls) v → goesOn v ≡ false → Answered (endedWith (verdictAnswer v) (j .stamp) (d .count) (d .images) (d .times) (d .replies))
       unfolding Judged
       stops-by verdict.Crowded k g =
           stops crowded (means-crowded (onMachine b) p (x .rest) (j .stamp) (x .same) higher m sure (too-many b (x .held) p (x .rest) (j .stamp) (x .holds) (x .same) higher k))
@@ -202,7 +209,7 @@ module _ (text : List ℕ) (b : Board) (rs : List Record) (lent : Images) (reada
       stops-by verdict.Passes k g = absurd (true-not-false g)
 
       -- the stamp stops the replay
-      pub reaching-stops : goesOn (j .verdict) ≡ false → Answered (endedWith (verdictAnswer (j .verdict)) (j .stamp) (d .count) (d .machine .images) (d .replies))
+      pub reaching-stops : goesOn (j .verdict) ≡ false → Answered (endedWith (verdictAnswer (j .verdict)) (j .stamp) (d .count) (d .images) (d .times) (d .replies))
       reaching-stops g = stops-by (j .verdict) judged g
 
       -- ---- the stamp passes

@@ -1,8 +1,9 @@
-//! The EEPROM ("EEPROM rules", "Supply" with request 3/12).
+//! The EEPROM ("EEPROM rules", "Supply" with request 3/12, its pages' times by request 1/12).
 
 use crate::image::{Image, KEPT};
 use crate::orders::Chip;
 use crate::record::{EepromEvent, LineEvent, Lines, Reply};
+use crate::times::{Time, EEPROM_PAGES};
 use std::ops::Range;
 
 const PAGE: u16 = 64;
@@ -50,6 +51,7 @@ pub struct Eeprom {
     /// None where it is lost.
     counter: Option<u16>,
     pub image: Image,
+    pub times: [Time; EEPROM_PAGES],
 }
 
 impl Cycle {
@@ -63,27 +65,27 @@ impl Cycle {
 impl Chip for Eeprom {
     type Event = EepromEvent;
 
-    fn bus(&mut self, event: EepromEvent, lines: Lines) -> Reply {
+    fn bus(&mut self, event: EepromEvent, lines: Lines, stamp: u32) -> Reply {
         match event {
             EepromEvent::Sta if lines.supply => self.frame = Frame::Started { in_cycle: self.cycle.is_some() },
             EepromEvent::Sta | EepromEvent::Cut => self.frame = Frame::Void,
             EepromEvent::B { byte, nak } => return self.byte(byte, nak),
             EepromEvent::Sto => return self.stop(lines),
-            EepromEvent::End => return self.end(),
+            EepromEvent::End => return self.end(stamp),
         }
         Reply::Silent
     }
 
-    fn line(&mut self, event: LineEvent, before: Lines) {
+    fn line(&mut self, event: LineEvent, before: Lines, stamp: u32) {
         if before.falls(event) {
-            self.lose_supply();
+            self.lose_supply(stamp);
         }
     }
 }
 
 impl Eeprom {
     pub fn at_start(address: u8) -> Eeprom {
-        Eeprom { address, frame: Frame::Idle, cycle: None, counter: None, image: Image::BLANK }
+        Eeprom { address, frame: Frame::Idle, cycle: None, counter: None, image: Image::BLANK, times: [None; EEPROM_PAGES] }
     }
 
     fn byte(&mut self, byte: u8, nak: bool) -> Reply {
@@ -148,8 +150,8 @@ impl Eeprom {
         reply
     }
 
-    fn end(&mut self) -> Reply {
-        match self.cycle.take() {
+    fn end(&mut self, stamp: u32) -> Reply {
+        match self.finished(stamp) {
             None => Reply::NoCycle,
             Some(cycle) => {
                 self.store(&cycle);
@@ -158,8 +160,8 @@ impl Eeprom {
         }
     }
 
-    fn lose_supply(&mut self) {
-        if let Some(cycle) = self.cycle.take() {
+    fn lose_supply(&mut self, stamp: u32) {
+        if let Some(cycle) = self.finished(stamp) {
             // The whole page, whatever was sent of it (request 3/12).
             let page = cycle.places();
             self.image.values[page.clone()].fill(0x00);
@@ -169,6 +171,13 @@ impl Eeprom {
         if self.frame != Frame::Idle {
             self.frame = Frame::Void;
         }
+    }
+
+    /// The cycle, where one runs, over in one way or the other: its page has this time.
+    fn finished(&mut self, stamp: u32) -> Option<Cycle> {
+        let cycle = self.cycle.take()?;
+        self.times[usize::from(cycle.page)] = Some(stamp);
+        Some(cycle)
     }
 
     /// The bytes sent, and no others.

@@ -1,8 +1,9 @@
-//! The flash ("Flash rules", "Supply").
+//! The flash ("Flash rules", "Supply", its pages' times by request 1/12).
 
 use crate::image::{Image, KEPT};
 use crate::orders::Chip;
 use crate::record::{FlashEvent, LineEvent, Lines, Reply};
+use crate::times::{Time, FLASH_PAGES};
 use std::mem::replace;
 
 const PAGE: usize = 256;
@@ -80,25 +81,26 @@ pub struct Flash {
     frame: Frame,
     cycle: Option<Cycle>,
     pub image: Image,
+    pub times: [Time; FLASH_PAGES],
 }
 
 impl Chip for Flash {
     type Event = FlashEvent;
 
-    fn bus(&mut self, event: FlashEvent, lines: Lines) -> Reply {
+    fn bus(&mut self, event: FlashEvent, lines: Lines, stamp: u32) -> Reply {
         match event {
             FlashEvent::Sel => self.select(lines),
             FlashEvent::X { si, .. } => return self.exchange(si),
             FlashEvent::Cut => self.frame = Frame::Void,
             FlashEvent::Des => return self.deselect(),
-            FlashEvent::End => return self.end(),
+            FlashEvent::End => return self.end(stamp),
         }
         Reply::Silent
     }
 
-    fn line(&mut self, event: LineEvent, before: Lines) {
+    fn line(&mut self, event: LineEvent, before: Lines, stamp: u32) {
         if before.falls(event) {
-            self.lose_supply();
+            self.lose_supply(stamp);
         }
         if event == LineEvent::Lock {
             self.see_lock();
@@ -108,7 +110,8 @@ impl Chip for Flash {
 
 impl Flash {
     pub fn at_start(status: u8, watched: u8) -> Flash {
-        Flash { watched, status: Status::Known(status), frame: Frame::Idle, cycle: None, image: Image::BLANK }
+        let status = Status::Known(status);
+        Flash { watched, status, frame: Frame::Idle, cycle: None, image: Image::BLANK, times: [None; FLASH_PAGES] }
     }
 
     pub fn is_lost(&self) -> bool {
@@ -207,28 +210,28 @@ impl Flash {
         }
     }
 
-    fn end(&mut self) -> Reply {
+    fn end(&mut self, stamp: u32) -> Reply {
         match self.cycle.take() {
             None => return Reply::NoCycle,
             Some(Cycle::Program { address, page }) => {
-                self.change_page(address, &page, |value, mask, sent| (value & sent, mask & sent))
+                self.change_page(address, &page, stamp, |value, mask, sent| (value & sent, mask & sent))
             }
-            Some(Cycle::SectorErase { sector }) => self.erase(sector == self.watched, 0xff, 0x00),
-            Some(Cycle::ChipErase) => self.erase(!self.locks_out(self.watched), 0xff, 0x00),
+            Some(Cycle::SectorErase { sector }) => self.erase(sector == self.watched, stamp, (0xff, 0x00)),
+            Some(Cycle::ChipErase) => self.erase(!self.locks_out(self.watched), stamp, (0xff, 0x00)),
             Some(Cycle::WriteStatus(byte)) => self.status = Status::Known(byte & WRITTEN),
         }
         self.set_write_enable(false);
         Reply::Ends
     }
 
-    fn lose_supply(&mut self) {
+    fn lose_supply(&mut self, stamp: u32) {
         match self.cycle.take() {
             None => (),
             Some(Cycle::Program { address, page }) => {
-                self.change_page(address, &page, |value, mask, sent| (value & sent, mask | (value & !sent)))
+                self.change_page(address, &page, stamp, |value, mask, sent| (value & sent, mask | (value & !sent)))
             }
-            Some(Cycle::SectorErase { sector }) => self.erase(sector == self.watched, 0x00, 0xff),
-            Some(Cycle::ChipErase) => self.erase(!self.locks_out(self.watched), 0x00, 0xff),
+            Some(Cycle::SectorErase { sector }) => self.erase(sector == self.watched, stamp, (0x00, 0xff)),
+            Some(Cycle::ChipErase) => self.erase(!self.locks_out(self.watched), stamp, (0x00, 0xff)),
             Some(Cycle::WriteStatus(_)) => self.status = Status::Lost,
         }
         self.set_write_enable(false);
@@ -237,7 +240,8 @@ impl Flash {
         }
     }
 
-    fn change_page(&mut self, address: u32, page: &Page, change: impl Fn(u8, u8, u8) -> (u8, u8)) {
+    /// A program, whole or cut, where its page is watched.
+    fn change_page(&mut self, address: u32, page: &Page, stamp: u32, change: impl Fn(u8, u8, u8) -> (u8, u8)) {
         if sector_of(address) != self.watched {
             return;
         }
@@ -249,12 +253,14 @@ impl Flash {
             *value = new_value;
             *mask = new_mask;
         }
+        self.times[first / PAGE] = Some(stamp);
     }
 
     /// An erase, whole or cut, where it reaches the watched sector.
-    fn erase(&mut self, reached: bool, value: u8, mask: u8) {
+    fn erase(&mut self, reached: bool, stamp: u32, (value, mask): (u8, u8)) {
         if reached {
             self.image.fill(value, mask);
+            self.times.fill(Some(stamp));
         }
     }
 

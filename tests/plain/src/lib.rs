@@ -1,6 +1,6 @@
-//! The replay of document 01 with requests 2/12 and 3/12 in plain Rust, to be measured beside the proved one: the text is read
-//! once into records, then each order of a stamp is tried from a fresh copy of the chip with its image. It is written from the
-//! documents and shares nothing with the proved code.
+//! The replay of document 01 with requests 1/12, 2/12 and 3/12 in plain Rust, to be measured beside the proved one: the text is
+//! read once into records, then each order of a stamp is tried from a fresh copy of the chip with its image. It is written from
+//! the documents and shares nothing with the proved code.
 
 mod eeprom;
 mod flash;
@@ -9,6 +9,7 @@ mod orders;
 mod record;
 mod replay;
 mod text;
+mod times;
 
 pub use replay::{replay, Buffers};
 use std::slice;
@@ -31,6 +32,8 @@ pub unsafe extern "C" fn plain_replay(
     eeprom_len: usize,
     eeprom_mask: *mut u8,
     eeprom_mask_len: usize,
+    times: *mut u8,
+    times_len: usize,
     replies: *mut u8,
     replies_len: usize,
     result: *mut u8,
@@ -42,6 +45,7 @@ pub unsafe extern "C" fn plain_replay(
         flash_mask: lent(flash_mask, flash_mask_len),
         eeprom: lent(eeprom, eeprom_len),
         eeprom_mask: lent(eeprom_mask, eeprom_mask_len),
+        times: lent(times, times_len),
         replies: lent(replies, replies_len),
         result: lent(result, result_len),
     };

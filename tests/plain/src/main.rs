@@ -1,11 +1,11 @@
-//! The plain replay over pipes, as tests/c/driver.c serves the proved one. A request: the lengths of the seven buffers, each
-//! as four bytes with the low one first, then the bytes of each. The answer: the call's answer in four bytes, then the six
-//! lent buffers. Seven zero lengths, or the end of the input, end the program.
+//! The plain replay over pipes, as tests/c/driver.c serves the proved one. A request: the lengths of the eight buffers, each
+//! as four bytes with the low one first, then the bytes of each. The answer: the call's answer in four bytes, then the seven
+//! lent buffers. Eight zero lengths, or the end of the input, end the program.
 
 use hazelcrook_plain::{replay, Buffers};
 use std::io::{self, Read, Write};
 
-const BUFFERS: usize = 7;
+const BUFFERS: usize = 8;
 
 fn main() -> io::Result<()> {
     let mut input = io::BufReader::new(io::stdin());
@@ -39,15 +39,16 @@ fn request(input: &mut impl Read) -> io::Result<Option<[Vec<u8>; BUFFERS]>> {
 }
 
 fn answered(request: [Vec<u8>; BUFFERS]) -> (u32, [Vec<u8>; BUFFERS - 1]) {
-    let [text, mut flash, mut flash_mask, mut eeprom, mut eeprom_mask, mut replies, mut result] = request;
+    let [text, mut flash, mut flash_mask, mut eeprom, mut eeprom_mask, mut times, mut replies, mut result] = request;
     let mut buffers = Buffers {
         flash: &mut flash,
         flash_mask: &mut flash_mask,
         eeprom: &mut eeprom,
         eeprom_mask: &mut eeprom_mask,
+        times: &mut times,
         replies: &mut replies,
         result: &mut result,
     };
     let answer = replay(&text, &mut buffers);
-    (answer, [flash, flash_mask, eeprom, eeprom_mask, replies, result])
+    (answer, [flash, flash_mask, eeprom, eeprom_mask, times, replies, result])
 }

@@ -10,10 +10,10 @@ pub const MOST_LINES: usize = 2;
 pub trait Chip: Copy + PartialEq {
     type Event: Copy;
 
-    fn bus(&mut self, event: Self::Event, lines: Lines) -> Reply;
+    fn bus(&mut self, event: Self::Event, lines: Lines, stamp: u32) -> Reply;
 
     /// A line record; `before` are the lines as it finds them.
-    fn line(&mut self, event: LineEvent, before: Lines);
+    fn line(&mut self, event: LineEvent, before: Lines, stamp: u32);
 }
 
 /// The replies to the bus records, in their order.
@@ -25,6 +25,7 @@ type Order = [bool; MOST_BUS + MOST_LINES];
 /// What one chip has to do with a stamp.
 #[derive(Clone, Copy)]
 pub struct Tied<'a, E> {
+    pub stamp: u32,
     pub bus: &'a [E],
     pub lines: &'a [LineEvent],
     /// The lines at the stamp's start.
@@ -106,11 +107,11 @@ fn play<C: Chip>(chip: &mut C, tied: Tied<C::Event>, order: &[bool]) -> Replies 
     for &line_first in order {
         if line_first {
             if let Some(&event) = line_events.next() {
-                chip.line(event, lines);
+                chip.line(event, lines, tied.stamp);
                 lines = lines.after(event);
             }
         } else if let Some((&event, reply)) = bus_events.next() {
-            *reply = chip.bus(event, lines);
+            *reply = chip.bus(event, lines, tied.stamp);
         }
     }
     replies

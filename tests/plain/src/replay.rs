@@ -6,6 +6,7 @@ use crate::image::{has_bit_in_both, KEPT};
 use crate::orders::{Replies, Tied, Trial, MOST_BUS, MOST_LINES};
 use crate::record::{Board, EepromEvent, Event, FlashEvent, LineEvent, Lines, Record, Reply, DISAGREES};
 use crate::text::read;
+use crate::times::{give, TABLE};
 use std::mem::swap;
 
 const REPLIES: usize = 40_000;
@@ -17,6 +18,7 @@ pub struct Buffers<'a> {
     pub flash_mask: &'a mut [u8],
     pub eeprom: &'a mut [u8],
     pub eeprom_mask: &'a mut [u8],
+    pub times: &'a mut [u8],
     pub replies: &'a mut [u8],
     pub result: &'a mut [u8],
 }
@@ -44,6 +46,7 @@ impl Buffers<'_> {
             && self.flash_mask.len() == KEPT
             && self.eeprom.len() == KEPT
             && self.eeprom_mask.len() == KEPT
+            && self.times.len() == TABLE
             && self.replies.len() == REPLIES
             && self.result.len() == RESULT
             && !has_bit_in_both(self.flash, self.flash_mask)
@@ -66,6 +69,7 @@ impl Buffers<'_> {
         let (answer, stamp, count) = desk.stamps(records, self.replies);
         desk.flash.now.image.give(self.flash, self.flash_mask);
         desk.eeprom.now.image.give(self.eeprom, self.eeprom_mask);
+        give(&desk.flash.now.times, &desk.eeprom.now.times, self.times);
         [answer, stamp, count, 0]
     }
 }
@@ -112,7 +116,7 @@ impl Desk<'_> {
             let stamp = records[at].stamp;
             let length = records[at..].iter().take_while(|record| record.stamp == stamp).count();
             let tied = &records[at..at + length];
-            match self.stamp(tied) {
+            match self.stamp(stamp, tied) {
                 Err(stop) => return (stop, stamp, count),
                 Ok(told) => count += put_replies(tied, told, &mut replies[4 * at..4 * (at + length)]),
             }
@@ -122,7 +126,7 @@ impl Desk<'_> {
     }
 
     /// Plays one stamp where all orders agree; the number of the stop where it can't be played.
-    fn stamp(&mut self, records: &[Record]) -> Result<(Replies, Replies), u32> {
+    fn stamp(&mut self, stamp: u32, records: &[Record]) -> Result<(Replies, Replies), u32> {
         self.channels.take(records);
         if self.channels.crowded() {
             return Err(6);
@@ -133,10 +137,10 @@ impl Desk<'_> {
         let plays_eeprom = !eeprom.is_empty() || !lines.is_empty();
         let mut told = ([Reply::Silent; MOST_BUS], [Reply::Silent; MOST_BUS]);
         if plays_flash {
-            told.0 = self.flash.agreed(Tied { bus: flash, lines, before: self.lines }).ok_or(7_u32)?;
+            told.0 = self.flash.agreed(Tied { stamp, bus: flash, lines, before: self.lines }).ok_or(7_u32)?;
         }
         if plays_eeprom {
-            told.1 = self.eeprom.agreed(Tied { bus: eeprom, lines, before: self.lines }).ok_or(7_u32)?;
+            told.1 = self.eeprom.agreed(Tied { stamp, bus: eeprom, lines, before: self.lines }).ok_or(7_u32)?;
         }
         if plays_flash && self.flash.first.is_lost() {
             return Err(8);

@@ -6,14 +6,18 @@ use crate::generate::cut_pages::cut_pages;
 use crate::generate::kinds::{self, Kind};
 use crate::generate::prepared::prepared;
 use crate::generate::random::Random;
-use crate::generate::reorder::reorder;
+use crate::generate::reorder::{reorder, Reordered};
+use crate::generate::restamp::{restamp, Restamped};
 use crate::generate::samples;
 use crate::generate::spoilt;
-use crate::model::call::{Call, REPLIES, RESULT};
+use crate::generate::write_cycles::write_cycles;
+use crate::model::call::{Call, BUFFERS, REPLIES, RESULT, TIMES};
 use crate::model::kept::KEPT;
 use crate::model::stamp::Orders;
-use crate::model::text::read;
+use crate::model::text::{read, Trace};
+use crate::model::times::ENTRY;
 use crate::report::Report;
+use std::collections::BTreeMap;
 use std::io;
 use std::thread;
 
@@ -26,12 +30,13 @@ pub struct Plan {
 }
 
 /// Generated groups: a name, how many cases for each thousand of the plan, and how to make one.
-const GENERATED: [(&str, usize, Kind); 13] = [
+const GENERATED: [(&str, usize, Kind); 14] = [
     ("sessions", 140, kinds::session),
     ("tied sessions", 100, kinds::tied_session),
     ("tied stamps", 140, kinds::probe),
     ("ties in prepared states", 220, prepared),
     ("cut page writes", 40, cut_pages),
+    ("write cycles of every kind", 80, write_cycles),
     ("stamps at the limits", 60, kinds::limit),
     ("damaged lines", 140, kinds::damaged),
     ("changed bytes", 70, kinds::mutated),
@@ -50,7 +55,9 @@ pub fn check(plan: &Plan) -> io::Result<bool> {
         checker.generated(name, (plan.cases * share / 1000).max(8), kind)?;
     }
     checker.joint_orders((plan.cases / 50).max(8))?;
-    checker.reordered((plan.cases / 12).max(8))?;
+    let twelfth = (plan.cases / 12).max(8);
+    checker.varied("lines in another allowed order", twelfth, [kinds::probe, kinds::tied_session], reordered)?;
+    checker.varied("the same lines with other stamps", twelfth, [write_cycles, kinds::probe], restamped)?;
     checker.prefixes((plan.cases / 3000).max(2))?;
     checker.spoilt_texts()?;
     let mut ending = checker.report.group("the driver's own end");
@@ -170,26 +177,25 @@ impl Checker {
         Ok(())
     }
 
-    /// Another allowed order of the lines: the driver must say the same, with each reply at its record's new place.
-    fn reordered(&mut self, count: usize) -> io::Result<()> {
-        let mut group = self.report.group("lines in another allowed order");
-        let mut random = self.random_for("reordered");
+    /// Other texts of the same history: the driver must say the same of each, as the variant reads it.
+    fn varied(&mut self, name: &str, count: usize, kinds: [Kind; 2], vary: Vary) -> io::Result<()> {
+        let mut group = self.report.group(name);
+        let mut random = self.random_for(name);
         for number in 0..count {
-            let kind: Kind = if number % 2 == 0 { kinds::probe } else { kinds::tied_session };
-            let call = kind(&mut random, number);
+            let call = kinds[number % 2](&mut random, number);
             let trace = match read(&call.text) {
                 Ok(trace) => trace,
                 Err(_) => continue,
             };
-            let others = [reorder(&mut random, &call.text, &trace), reorder(&mut random, &call.text, &trace)];
+            let variants = [vary(&mut random, &call.text, &trace), vary(&mut random, &call.text, &trace)];
             let mut calls = vec![call.clone()];
-            calls.extend(others.iter().map(|other| Call { text: other.text.clone(), ..call.clone() }));
+            calls.extend(variants.iter().map(|variant| Call { text: variant.text.clone(), ..call.clone() }));
             let (answers, ()) = self.ask(&calls, || ())?;
-            for (place, other) in others.iter().enumerate() {
-                let expected = answers[0].as_ref().map(|outcome| moved(outcome, &other.text, &other.origins));
+            for (place, variant) in variants.iter().enumerate() {
+                let expected = answers[0].as_ref().map(|outcome| (variant.due)(outcome));
                 let found = || match &expected {
                     Some(expected) => difference(expected, &answers[place + 1]),
-                    None => Some(String::from("no answer to the first order")),
+                    None => Some(String::from("no answer to the first text")),
                 };
                 let answer = expected.as_ref().map_or(0, |outcome| outcome.0);
                 group.judge(answer, found, &[&calls[0], &calls[place + 1]]);
@@ -200,6 +206,26 @@ impl Checker {
     }
 }
 
+/// Another text, and what the first one's outcome is in its terms.
+struct Variant {
+    text: Vec<u8>,
+    due: Box<dyn Fn(&Outcome) -> Outcome>,
+}
+
+type Vary = fn(&mut Random, &[u8], &Trace) -> Variant;
+
+/// Another allowed order of the lines: each reply is at its record's new place.
+fn reordered(random: &mut Random, text: &[u8], trace: &Trace) -> Variant {
+    let Reordered { text, origins } = reorder(random, text, trace);
+    Variant { text, due: Box::new(move |outcome| moved(outcome, &origins)) }
+}
+
+/// Other stamps in the same order: a stop and the pages' times have the new ones.
+fn restamped(random: &mut Random, text: &[u8], trace: &Trace) -> Variant {
+    let Restamped { text, stamps } = restamp(random, text, trace);
+    Variant { text, due: Box::new(move |outcome| dated(outcome, &stamps)) }
+}
+
 const LONGEST_PREFIX: usize = 700;
 
 fn prefixes_of(call: &Call) -> impl Iterator<Item = Call> + '_ {
@@ -208,9 +234,9 @@ fn prefixes_of(call: &Call) -> impl Iterator<Item = Call> + '_ {
 }
 
 /// An outcome as it must be for the same records in another order.
-fn moved(outcome: &Outcome, text: &[u8], origins: &[usize]) -> Outcome {
+fn moved(outcome: &Outcome, origins: &[usize]) -> Outcome {
     let (answer, before) = outcome;
-    let mut after = Call { text: text.to_vec(), ..before.clone() };
+    let mut after = before.clone();
     for (place, &origin) in origins.iter().enumerate() {
         let reply = &before.replies[4 * origin..4 * origin + 4];
         after.replies[4 * place..4 * place + 4].copy_from_slice(reply);
@@ -218,7 +244,25 @@ fn moved(outcome: &Outcome, text: &[u8], origins: &[usize]) -> Outcome {
     (*answer, after)
 }
 
-const NAMES: [&str; 7] = ["text", "flash image", "flash mask", "EEPROM image", "EEPROM mask", "replies", "result"];
+/// An outcome as it must be for the same records with these new stamps.
+fn dated(outcome: &Outcome, stamps: &BTreeMap<u32, u32>) -> Outcome {
+    let (answer, mut after) = outcome.clone();
+    let entries = after.times.chunks_exact_mut(ENTRY).filter(|entry| entry[0] != 0).map(|entry| &mut entry[1..]);
+    let stop = if answer >= 6 { Some(&mut after.result[4..8]) } else { None };
+    for four in entries.chain(stop) {
+        // A stamp that the trace has not is left as it is, and will differ.
+        if let Some(stamp) = stamps.get(&numbers(four)[0]) {
+            four.copy_from_slice(&stamp.to_le_bytes());
+        }
+    }
+    (answer, after)
+}
+
+const NAMES: [&str; BUFFERS] =
+    ["text", "flash image", "flash mask", "EEPROM image", "EEPROM mask", "page times", "replies", "result"];
+
+/// Which buffer is looked at first: what tells most.
+const BY_WEIGHT: [usize; BUFFERS - 1] = [7, 6, 5, 1, 2, 3, 4];
 
 /// The first thing in which an answer is not as expected.
 fn difference(expected: &Outcome, answer: &Answer) -> Option<String> {
@@ -229,7 +273,7 @@ fn difference(expected: &Outcome, answer: &Answer) -> Option<String> {
     if *number != expected.0 {
         return Some(format!("answer {} where {} is due", number, expected.0));
     }
-    for which in [6, 5, 1, 2, 3, 4] {
+    for which in BY_WEIGHT {
         let due = expected.1.buffers()[which];
         let found = after.buffers()[which];
         if let Some(place) = (0..due.len()).find(|&place| due[place] != found[place]) {
@@ -241,11 +285,15 @@ fn difference(expected: &Outcome, answer: &Answer) -> Option<String> {
 
 fn told(which: usize, place: usize, due: &[u8], found: &[u8]) -> String {
     match (which, due.len()) {
-        (5, REPLIES) => {
+        (5, TIMES) => {
+            let entry = place / ENTRY * ENTRY..place / ENTRY * ENTRY + ENTRY;
+            format!(" in entry {}: {:?} where {:?} is due", place / ENTRY, &found[entry.clone()], &due[entry])
+        }
+        (6, REPLIES) => {
             let first = place / 4 * 4;
             format!(" at line {}: {:?} where {:?} is due", place / 4 + 2, &found[first..first + 4], &due[first..first + 4])
         }
-        (6, RESULT) => format!(": {:?} where {:?} is due", numbers(found), numbers(due)),
+        (7, RESULT) => format!(": {:?} where {:?} is due", numbers(found), numbers(due)),
         (1..=4, KEPT) => format!(" at {:04x}: {:02x} where {:02x} is due", place, found[place], due[place]),
         _ => format!(" at byte {}: {:02x} where {:02x} is due", place, found[place], due[place]),
     }

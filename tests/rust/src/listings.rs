@@ -1,20 +1,21 @@
-//! Program `replay` as a whole: files in a folder, the listing on its standard output.
+//! A program as a whole: files in a folder, a listing on its standard output.
 
 use crate::fixed;
 use crate::generate::dumps::Dumps;
 use crate::generate::kinds::{self, Kind};
 use crate::generate::random::Random;
+use crate::generate::write_cycles::write_cycles;
 use crate::model::call::Call;
 use crate::model::kept::{Kept, KEPT};
-use crate::model::listing::{listing, Files};
+use crate::model::listing::{Files, Listing};
 use crate::report::{fresh_folder, Group, Report};
 use std::fs;
 use std::io;
 use std::path::Path;
 use std::process::Command;
 
-/// The listing that `replay` owes for the files in the present folder.
-pub fn here() -> io::Result<String> {
+/// The listing that a program owes for the files in the present folder.
+pub fn here(listing: Listing) -> io::Result<String> {
     let files = Files { trace: present("trace.tsv")?, flash: present("flash.bin")?, eeprom: present("eeprom.bin")? };
     Ok(listing(&files))
 }
@@ -29,13 +30,16 @@ fn present(name: &str) -> io::Result<Option<Vec<u8>>> {
 
 pub struct Plan {
     pub command: String,
+    /// What the command must print.
+    pub listing: Listing,
     pub cases: usize,
     pub seed: u64,
 }
 
-const KINDS: [Kind; 8] = [
+const KINDS: [Kind; 9] = [
     kinds::session,
     kinds::probe,
+    write_cycles,
     kinds::damaged,
     kinds::limit,
     kinds::words,
@@ -45,15 +49,15 @@ const KINDS: [Kind; 8] = [
 ];
 
 pub fn check(plan: &Plan) -> io::Result<bool> {
-    let command = whole_paths(&plan.command);
+    let program = Program { command: whole_paths(&plan.command), listing: plan.listing };
     let mut report = Report::default();
     let mut fixed_group = report.group("listings of texts written by hand");
     for case in fixed::all() {
         let files = Files { trace: Some(case.call.text.clone()), flash: None, eeprom: None };
-        judge(&mut fixed_group, &command, &files, &[&case.call]);
+        program.judge(&mut fixed_group, &files, &[&case.call]);
     }
     let nothing = Files { trace: None, flash: None, eeprom: None };
-    judge(&mut fixed_group, &command, &nothing, &[]);
+    program.judge(&mut fixed_group, &nothing, &[]);
     report.close(fixed_group);
 
     let mut group = report.group("listings of generated files");
@@ -65,7 +69,7 @@ pub fn check(plan: &Plan) -> io::Result<bool> {
             KINDS[number % KINDS.len()](&mut random, number)
         };
         let files = files_for(&mut random, &call);
-        judge(&mut group, &command, &files, &[&call]);
+        program.judge(&mut group, &files, &[&call]);
     }
     report.close(group);
     Ok(report.finish())
@@ -92,9 +96,16 @@ fn dump(random: &mut Random, kept: &Kept) -> Option<Vec<u8>> {
     Some(bytes)
 }
 
-fn judge(group: &mut Group, command: &[String], files: &Files, calls: &[&Call]) {
-    let due = listing(files);
-    group.judge(answer_told(&due), || unlike(command, files, &due), calls);
+struct Program {
+    command: Vec<String>,
+    listing: Listing,
+}
+
+impl Program {
+    fn judge(&self, group: &mut Group, files: &Files, calls: &[&Call]) {
+        let due = (self.listing)(files);
+        group.judge(answer_told(&due), || unlike(&self.command, files, &due), calls);
+    }
 }
 
 /// The number that a listing's last line tells.

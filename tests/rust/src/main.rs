@@ -1,10 +1,10 @@
-//! The independent check of the replay: a plain model of document 01 with requests 2/12 and 3/12, generated traces, and a
+//! The independent check of the replay: a plain model of document 01 with requests 1/12, 2/12 and 3/12, generated traces, and a
 //! comparison over pipes.
 //!
 //!   hazelcrook-check check DRIVER_COMMAND [--cases N] [--seed S] [--long]
-//!   hazelcrook-check listings REPLAY_COMMAND [--cases N] [--seed S]
+//!   hazelcrook-check listings replay|pages COMMAND [--cases N] [--seed S]
 //!   hazelcrook-check serve
-//!   hazelcrook-check listing
+//!   hazelcrook-check listing replay|pages
 //!   hazelcrook-check list [growth]
 //!   hazelcrook-check emit NAME
 //!
@@ -21,6 +21,7 @@ mod report;
 mod serve;
 
 use generate::samples::{self, Sample};
+use model::listing::{Listing, PROGRAMS};
 use std::env;
 use std::io::{self, Write};
 use std::process::exit;
@@ -75,17 +76,22 @@ fn run(mode: &str, arguments: Arguments) -> io::Result<bool> {
         ("check", [command]) => {
             check::check(&check::Plan { command: command.clone(), cases: arguments.cases.unwrap_or(usual), seed })
         }
-        ("listings", [command]) => {
+        ("listings", [program, command]) => {
             let cases = arguments.cases.unwrap_or(LISTING_CASES);
-            listings::check(&listings::Plan { command: command.clone(), cases, seed })
+            listings::check(&listings::Plan { command: command.clone(), listing: listing_of(program)?, cases, seed })
         }
         ("serve", []) => serve::serve().map(|()| true),
-        ("listing", []) => print(listings::here()?.as_bytes()),
+        ("listing", [program]) => print(listings::here(listing_of(program)?)?.as_bytes()),
         ("list", []) => print(list(&samples::ALL).as_bytes()),
         ("list", [growth]) if growth == "growth" => print(list(&samples::GROWTH).as_bytes()),
         ("emit", [name]) => emit(name),
         _ => Err(io::Error::new(io::ErrorKind::InvalidInput, "no such mode; see the head of src/main.rs")),
     }
+}
+
+fn listing_of(program: &str) -> io::Result<Listing> {
+    let found = PROGRAMS.iter().find(|(name, _)| *name == program);
+    found.map(|&(_, listing)| listing).ok_or_else(|| io::Error::new(io::ErrorKind::InvalidInput, "no such program"))
 }
 
 /// The sample traces by name, after the word `tied` or `untied`.

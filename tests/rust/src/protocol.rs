@@ -1,8 +1,8 @@
-//! How a driver is asked. A request: the lengths of the seven buffers, each as four bytes with the low one first, then the
-//! bytes of each. An answer: the call's answer in four bytes, then the six lent buffers, as long as they were. Seven zero
+//! How a driver is asked. A request: the lengths of the eight buffers, each as four bytes with the low one first, then the
+//! bytes of each. An answer: the call's answer in four bytes, then the seven lent buffers, as long as they were. Eight zero
 //! lengths, or the end of the input, end the talk.
 
-use crate::model::call::Call;
+use crate::model::call::{Call, BUFFERS};
 use std::io::{self, Read, Write};
 
 pub fn write_request(output: &mut impl Write, call: &Call) -> io::Result<()> {
@@ -16,7 +16,7 @@ pub fn write_request(output: &mut impl Write, call: &Call) -> io::Result<()> {
 }
 
 pub fn read_request(input: &mut impl Read) -> io::Result<Option<Call>> {
-    let mut lengths = [0; 7];
+    let mut lengths = [0; BUFFERS];
     for length in &mut lengths {
         match read_number(input) {
             Ok(number) => *length = number as usize,
@@ -24,7 +24,7 @@ pub fn read_request(input: &mut impl Read) -> io::Result<Option<Call>> {
             Err(error) => return Err(error),
         }
     }
-    if lengths == [0; 7] {
+    if lengths == [0; BUFFERS] {
         return Ok(None);
     }
     let mut buffers = Vec::new();
@@ -39,6 +39,7 @@ pub fn read_request(input: &mut impl Read) -> io::Result<Option<Call>> {
         flash_mask: next(),
         eeprom: next(),
         eeprom_mask: next(),
+        times: next(),
         replies: next(),
         result: next(),
     }))

@@ -1,6 +1,6 @@
 //! What a check prints, and where it lays down the cases that failed.
 
-use crate::model::call::Call;
+use crate::model::call::{Call, BUFFERS};
 use std::collections::BTreeMap;
 use std::env;
 use std::fs;
@@ -75,10 +75,13 @@ fn show(call: &Call) {
     }
 }
 
+/// A file for each buffer of a call.
+const SAVED: [&str; BUFFERS] =
+    ["trace.tsv", "flash.bin", "flash-mask.bin", "eeprom.bin", "eeprom-mask.bin", "times.bin", "replies.bin", "result.bin"];
+
 fn save(call: &Call) -> io::Result<PathBuf> {
     let folder = fresh_folder()?;
-    let names = ["trace.tsv", "flash.bin", "flash-mask.bin", "eeprom.bin", "eeprom-mask.bin", "replies.bin", "result.bin"];
-    for (name, buffer) in names.iter().zip(call.buffers()) {
+    for (name, buffer) in SAVED.iter().zip(call.buffers()) {
         fs::write(folder.join(name), buffer)?;
     }
     Ok(folder)

@@ -27,59 +27,29 @@ returns-2 c = rw (via (c .before .before .before .image-fits .ensures) (not-fals
 
 returns-3 : tie.Need-returns-3
 unfolding fit
-returns-3 c =
-    rw (
-      via (c .before .before .before .before .image-fits .ensures) (not-false _ (c .before .before .before .if1 .left)),
-      via (c .before .before .image-fits2 .ensures) (not-false _ (c .before .if2 .left)),
-      ne-eqb _ _ (c .if3 .taken),
-    )
+returns-3 c = rw (via (c .before .before .before .before .image-fits .ensures) (not-false _ (c .before .before .before .if1 .left)), via (c .before .before .image-fits2 .ensures) (not-false _ (c .before .if2 .left)), ne-eqb _ _ (c .if3 .taken))
 
 returns-4 : tie.Need-returns-4
 unfolding fit
-returns-4 c =
-    rw (
-      via (c .before .before .before .before .before .image-fits .ensures) (not-false _ (c .before .before .before .before .if1 .left)),
-      via (c .before .before .before .image-fits2 .ensures) (not-false _ (c .before .before .if2 .left)),
-      eq-eqb _ _ (c .before .if3 .left),
-      ne-eqb _ _ (c .if4 .taken),
-    )
-
-is-clear-requires : tie.Need-is-clear-requires
-is-clear-requires c κs =
-    let a = c .before .before .before .before .before .before .before .before .before .before .before .before .args in
-    let i = imageOf (a .flash .now) (a .flash-mask .now) in
-    let t = via (c .before .before .before .before .before .image-fits .ensures) (not-false _ (c .before .before .before .before .if1 .left)) in
-    spans-masks i (keptBytes Chip.Flash) t ∙ sym (spans-values i (keptBytes Chip.Flash) t)
+returns-4 c = rw (via (c .before .before .before .before .before .image-fits .ensures) (not-false _ (c .before .before .before .before .if1 .left)), via (c .before .before .before .image-fits2 .ensures) (not-false _ (c .before .before .if2 .left)), eq-eqb _ _ (c .before .if3 .left), ne-eqb _ _ (c .if4 .taken))
 
 returns-5 : tie.Need-returns-5
 unfolding fit
-returns-5 c =
-    rw (
-      via (c .before .before .before .before .before .before .before .image-fits .ensures) (not-false _ (c .before .before .before .before .before .before .if1 .left)),
-      via (c .before .before .before .before .before .image-fits2 .ensures) (not-false _ (c .before .before .before .before .if2 .left)),
-      eq-eqb _ _ (c .before .before .before .if3 .left),
-      eq-eqb _ _ (c .before .before .if4 .left),
-      via (c .before .is-clear .ensures) (not-true _ (c .if5 .taken)),
-    )
+returns-5 c = rw (via (c .before .before .before .before .before .before .image-fits .ensures) (not-false _ (c .before .before .before .before .before .if1 .left)), via (c .before .before .before .before .image-fits2 .ensures) (not-false _ (c .before .before .before .if2 .left)), eq-eqb _ _ (c .before .before .if3 .left), eq-eqb _ _ (c .before .if4 .left), ne-eqb _ _ (c .if5 .taken))
 
-is-clear-requires-2 : tie.Need-is-clear-requires-2
-is-clear-requires-2 c κs =
-    let a = c .before .before .before .before .before .before .before .before .before .before .before .before .before .before .args in
-    let i = imageOf (a .eeprom .now) (a .eeprom-mask .now) in
-    let t = via (c .before .before .before .before .before .image-fits2 .ensures) (not-false _ (c .before .before .before .before .if2 .left)) in
-    spans-masks i (keptBytes Chip.Eeprom) t ∙ sym (spans-values i (keptBytes Chip.Eeprom) t)
+is-clear-requires : tie.Need-is-clear-requires
+is-clear-requires c κs = let a = c .before .before .before .before .before .before .before .before .before .before .before .before .before .before .args in let i = imageOf (a .flash .now) (a .flash-mask .now) in let t = via (c .before .before .before .before .before .before .image-fits .ensures) (not-false _ (c .before .before .before .before .before .if1 .left)) in spans-masks i (keptBytes Chip.Flash) t ∙ sym (spans-values i (keptBytes Chip.Flash) t)
 
 returns-6 : tie.Need-returns-6
 unfolding fit
-returns-6 c =
-    c .is-clear2 .ensures
-    ∙ rw (
-      via (c .before .before .before .before .before .before .before .before .image-fits .ensures) (not-false _ (c .before .before .before .before .before .before .before .if1 .left)),
-      via (c .before .before .before .before .before .before .image-fits2 .ensures) (not-false _ (c .before .before .before .before .before .if2 .left)),
-      eq-eqb _ _ (c .before .before .before .before .if3 .left),
-      eq-eqb _ _ (c .before .before .before .if4 .left),
-      via (c .before .before .is-clear .ensures) (not-false _ (c .before .if5 .left)),
-    )
+returns-6 c = rw (via (c .before .before .before .before .before .before .before .before .image-fits .ensures) (not-false _ (c .before .before .before .before .before .before .before .if1 .left)), via (c .before .before .before .before .before .before .image-fits2 .ensures) (not-false _ (c .before .before .before .before .before .if2 .left)), eq-eqb _ _ (c .before .before .before .before .if3 .left), eq-eqb _ _ (c .before .before .before .if4 .left), eq-eqb _ _ (c .before .before .if5 .left), via (c .before .is-clear .ensures) (not-true _ (c .if6 .taken)))
+
+is-clear-requires-2 : tie.Need-is-clear-requires-2
+is-clear-requires-2 c κs = let a = c .before .before .before .before .before .before .before .before .before .before .before .before .before .before .before .before .args in let i = imageOf (a .eeprom .now) (a .eeprom-mask .now) in let t = via (c .before .before .before .before .before .before .image-fits2 .ensures) (not-false _ (c .before .before .before .before .before .if2 .left)) in spans-masks i (keptBytes Chip.Eeprom) t ∙ sym (spans-values i (keptBytes Chip.Eeprom) t)
+
+returns-7 : tie.Need-returns-7
+unfolding fit
+returns-7 c = c .is-clear2 .ensures ∙ rw (via (c .before .before .before .before .before .before .before .before .before .image-fits .ensures) (not-false _ (c .before .before .before .before .before .before .before .before .if1 .left)), via (c .before .before .before .before .before .before .before .image-fits2 .ensures) (not-false _ (c .before .before .before .before .before .before .if2 .left)), eq-eqb _ _ (c .before .before .before .before .before .if3 .left), eq-eqb _ _ (c .before .before .before .before .if4 .left), eq-eqb _ _ (c .before .before .before .if5 .left), via (c .before .before .is-clear .ensures) (not-false _ (c .before .if6 .left)))
 
 pub fits-all-spec : {M : Type 1} → statement M
 fits-all-spec =
@@ -91,7 +61,8 @@ fits-all-spec =
     returns-2
     returns-3
     returns-4
-    is-clear-requires
     returns-5
+    is-clear-requires
+    returns-6
     is-clear-requires-2
-    returns-6)
+    returns-7)

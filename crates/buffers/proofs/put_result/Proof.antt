@@ -4,7 +4,8 @@ use mathlib.Core.List.{List}
 use Prim.Native.Nat.{ℕ}
 use borrow.Author.Tests.{ne-eqb}
 use lib.Seq.{sets}
-use Rattle.buffers.specs.Buffers.{word, resultAfter}
+use Rattle.record.specs.Word.{word}
+use Rattle.buffers.specs.Buffers.{resultAfter}
 use Rattle.buffers.proofs.Result.{four-words}
 use borrow.Author.Needs.{needs}
 use Rattle.buffers.proofs.put_result.Statement.{statement}

@@ -35,6 +35,7 @@ fn case_1(name: &str) -> Script {
         .end(30)
         .read(40, "00 00 00", "a5/00")
         .flash_is(&[(0, 0xa5, 0x00)])
+        .written("flash 0 30")
 }
 
 fn case_2() -> Fixed {
@@ -44,6 +45,7 @@ fn case_2() -> Fixed {
         .end(70)
         .read(80, "00 00 00", "24/00")
         .flash_is(&[(0, 0x24, 0x00)])
+        .written("flash 0 70")
         .settled(0)
 }
 
@@ -54,6 +56,7 @@ fn case_3(name: &str) -> Script {
         .add("30 L off | 40 L on")
         .read(50, "00 00 00", "0f/f0")
         .flash_is(&[(0, 0x0f, 0xf0)])
+        .written("flash 0 30")
 }
 
 fn case_4() -> Fixed {
@@ -63,6 +66,7 @@ fn case_4() -> Fixed {
         .end(80)
         .read(90, "00 00 00", "0c/30")
         .flash_is(&[(0, 0x0c, 0x30)])
+        .written("flash 0 80")
         .settled(0)
 }
 
@@ -74,6 +78,7 @@ fn case_5() -> Fixed {
         .read(40, "00 00 05", "77/00")
         .read(50, "fe 00 05", "77/00")
         .flash_is(&[(5, 0x77, 0x00)])
+        .written("flash 0 30")
         .settled(0)
 }
 
@@ -85,6 +90,7 @@ fn case_6() -> Fixed {
         .read(40, "00 00 00", "22/00")
         .read(50, "00 00 ff", "11/00 ff/00")
         .flash_is(&[(0xff, 0x11, 0x00), (0, 0x22, 0x00)])
+        .written("flash 0 30")
         .settled(0)
 }
 
@@ -98,6 +104,7 @@ fn case_7() -> Fixed {
         .end(100)
         .read(110, "00 00 00", "5a/00 01/00")
         .flash_is(&places)
+        .written("flash 0 100")
         .settled(0)
 }
 
@@ -116,6 +123,7 @@ fn case_8_open() -> Fixed {
         .end(30)
         .read(40, "00 80 00", "a5/00")
         .flash_is(&[(0, 0xa5, 0x00)])
+        .written("flash 0 30")
         .settled(0)
 }
 
@@ -126,6 +134,7 @@ fn case_9() -> Fixed {
         .random_read(30, "00 3f", "11/00 ff/00")
         .random_read(40, "00 00", "22/00")
         .eeprom_is(&[(0x3f, 0x11, 0x00), (0, 0x22, 0x00)])
+        .written("eeprom 0 20")
         .settled(0)
 }
 

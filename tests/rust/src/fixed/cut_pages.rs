@@ -33,7 +33,7 @@ fn started(name: &str) -> Script {
 
 /// That cycle cut, and the supply on again.
 fn cut(name: &str) -> Script {
-    started(name).add("20 L off | 30 L on").eeprom_is(&doubtful_page(0x40))
+    started(name).add("20 L off | 30 L on").eeprom_is(&doubtful_page(0x40)).written("eeprom 1 20")
 }
 
 /// `count` bytes from 80 on.
@@ -50,6 +50,7 @@ fn one_byte(name: &str, sent: &str, before: [&str; 2], behind: [&str; 2], first:
         .random_read(40, before[0], before[1])
         .random_read(50, behind[0], behind[1])
         .eeprom_is(&doubtful_page(first))
+        .written(&format!("eeprom {} 20", first / 64))
         .settled(0)
 }
 
@@ -69,6 +70,7 @@ fn places() -> Vec<Fixed> {
             .write(10, "a0 ff e0 55", "starts .")
             .add("20 L off")
             .eeprom_is(&doubtful_page(0x7fc0))
+            .written("eeprom 511 20")
             .settled(0),
         from(Start::Half, "bytes that were sure in part")
             .write(10, "a0 01 20 55", "starts .")
@@ -76,6 +78,7 @@ fn places() -> Vec<Fixed> {
             .random_read(40, "00 ff", "05/f0 00/ff")
             .random_read(50, "01 3f", "00/ff 05/f0")
             .eeprom_is(&doubtful_page(0x100))
+            .written("eeprom 4 20")
             .settled(0),
     ]
 }
@@ -87,22 +90,26 @@ fn rolling() -> Vec<Fixed> {
             .add("20 L off | 30 L on")
             .random_read(40, "00 7f", "00/ff 80/00")
             .eeprom_is(&doubtful_page(0x40))
+            .written("eeprom 1 20")
             .settled(0),
         page("two bytes rolled at the chip's end")
             .write(10, "a0 7f ff 11 22", "starts .")
             .add("20 L off | 30 L on")
             .random_read(40, "7f ff", "00/ff 00/00 01/00")
             .eeprom_is(&doubtful_page(0x7fc0))
+            .written("eeprom 511 20")
             .settled(0),
         page("all bytes of the page sent")
             .write(10, &format!("a0 00 40 {}", bytes(64)), "starts .")
             .add("30 L off")
             .eeprom_is(&doubtful_page(0x40))
+            .written("eeprom 1 30")
             .settled(0),
         page("more bytes sent than the page has")
             .write(10, &format!("a0 00 7f {}", bytes(66)), "starts .")
             .add("30 L off")
             .eeprom_is(&doubtful_page(0x40))
+            .written("eeprom 1 30")
             .settled(0),
     ]
 }
@@ -114,6 +121,7 @@ fn more_cuts() -> Vec<Fixed> {
             .add("50 L off | 60 L on")
             .random_read(70, "00 3f", "3f/00 00/ff")
             .random_read(80, "00 7e", "00/ff 00/ff 80/00")
+            .written("eeprom 1 50")
             .settled(0),
         cut("a second cut takes back what was sure again")
             .write(40, "a0 00 50 77", "starts .")
@@ -122,6 +130,7 @@ fn more_cuts() -> Vec<Fixed> {
             .write(70, "a0 00 42 66", "starts .")
             .add("80 L off | 90 L on")
             .random_read(100, "00 50", "00/ff 00/ff")
+            .written("eeprom 1 80")
             .settled(0),
         cut("two pages, with one between them")
             .write(40, "a0 00 c1 66", "starts .")
@@ -130,6 +139,7 @@ fn more_cuts() -> Vec<Fixed> {
             .random_read(80, "00 bf", "bf/00 00/ff")
             .random_read(90, "00 ff", "00/ff 05/00")
             .eeprom_is(&doubtful_page(0xc0))
+            .written("eeprom 3 50")
             .settled(0),
         cut("two pages side by side")
             .write(40, "a0 00 80 66", "starts .")
@@ -137,6 +147,7 @@ fn more_cuts() -> Vec<Fixed> {
             .random_read(70, "00 7f", "00/ff 00/ff")
             .random_read(80, "00 bf", "00/ff c0/00")
             .eeprom_is(&doubtful_page(0x80))
+            .written("eeprom 2 50")
             .settled(0),
     ]
 }
@@ -150,6 +161,7 @@ fn rewritten() -> Vec<Fixed> {
             .eeprom_end(50)
             .random_read(60, "00 40", "00/ff 55/00 00/ff")
             .eeprom_is(&[(0x41, 0x55, 0x00)])
+            .written("eeprom 1 50")
             .settled(0),
         cut("written again in part, then whole")
             .write(40, "a0 00 7f aa bb", "starts .")
@@ -161,11 +173,13 @@ fn rewritten() -> Vec<Fixed> {
             .random_read(110, "00 3f", "3f/00 80/00 81/00")
             .random_read(120, "00 7e", "be/00 bf/00 80/00")
             .eeprom_is(&whole)
+            .written("eeprom 1 100")
             .settled(0),
         cut("written again in part, and left so")
             .write(40, "a0 00 7f aa bb", "starts .")
             .eeprom_end(50)
             .eeprom_is(&[(0x7f, 0xaa, 0x00), (0x40, 0xbb, 0x00)])
+            .written("eeprom 1 50")
             .settled(0),
     ]
 }
@@ -209,7 +223,7 @@ fn no_cycle() -> Vec<Fixed> {
             .add("30 L off | 40 L on")
             .random_read(50, "00 40", "40/00 55/00 42/00")
             .eeprom_is(&[(0x41, 0x55, 0x00)])
-            .settled(0),
+            .written("eeprom 1 20").settled(0),
         page("the lock on at sto")
             .add("5 L lock")
             .write(10, "a0 00 41 55", "- .")
@@ -227,25 +241,43 @@ fn no_cycle() -> Vec<Fixed> {
             .add("10 E sta | 10 E b a0 0 > ack = | 10 E b 00 0 > ack = | 10 E b 41 0 > ack = | 20 E sto > - . | 20 L off")
             .settled(0),
         open_write(page("the lock on, sto and off at one stamp").add("5 L lock"), 10).add("20 E sto > - . | 20 L off").settled(0),
-        started("a repeated on leaves the cycle").add("20 L on").eeprom_end(30).eeprom_is(&[(0x41, 0x55, 0x00)]).settled(0),
+        started("a repeated on leaves the cycle").add("20 L on").eeprom_end(30).eeprom_is(&[(0x41, 0x55, 0x00)]).written("eeprom 1 30").settled(0),
     ]
 }
 
 fn lines() -> Vec<Fixed> {
     vec![
-        started("the lock comes on in the cycle").add("20 L lock | 30 L off").eeprom_is(&doubtful_page(0x40)).settled(0),
+        started("the lock comes on in the cycle")
+            .add("20 L lock | 30 L off")
+            .eeprom_is(&doubtful_page(0x40))
+            .written("eeprom 1 30")
+            .settled(0),
         started("the lock comes and goes in the cycle")
             .add("20 L lock | 25 L free | 30 L off")
             .eeprom_is(&doubtful_page(0x40))
+            .written("eeprom 1 30")
             .settled(0),
-        started("the lock and off at one stamp").add("20 L lock | 20 L off").eeprom_is(&doubtful_page(0x40)).settled(0),
+        started("the lock and off at one stamp")
+            .add("20 L lock | 20 L off")
+            .eeprom_is(&doubtful_page(0x40))
+            .written("eeprom 1 20")
+            .settled(0),
         started("off and on at one stamp")
             .add("20 L off | 20 L on | 30 E end > idle .")
             .random_read(40, "00 7f", "00/ff 80/00")
             .eeprom_is(&doubtful_page(0x40))
+            .written("eeprom 1 20")
             .settled(0),
-        started("off twice").add("20 L off | 30 L off | 40 L off").eeprom_is(&doubtful_page(0x40)).settled(0),
-        started("off twice at one stamp").add("20 L off | 20 L off").eeprom_is(&doubtful_page(0x40)).settled(0),
+        started("off twice")
+            .add("20 L off | 30 L off | 40 L off")
+            .eeprom_is(&doubtful_page(0x40))
+            .written("eeprom 1 20")
+            .settled(0),
+        started("off twice at one stamp")
+            .add("20 L off | 20 L off")
+            .eeprom_is(&doubtful_page(0x40))
+            .written("eeprom 1 20")
+            .settled(0),
         cut("a later off puts nothing more in doubt")
             .write(40, "a0 00 50 77", "starts .")
             .eeprom_end(50)
@@ -253,6 +285,7 @@ fn lines() -> Vec<Fixed> {
             .eeprom_end(70)
             .add("80 L off | 90 L off | 100 L on | 110 L off")
             .eeprom_is(&[(0x50, 0x77, 0x00), (0x81, 0x88, 0x00)])
+            .written("eeprom 1 50 | eeprom 2 70")
             .settled(0),
         page("one off cuts both chips: the flash keeps what was not sent")
             .wren(5)
@@ -261,6 +294,7 @@ fn lines() -> Vec<Fixed> {
             .add("20 L off")
             .flash_is(&[(0x24, 0x04, 0x20)])
             .eeprom_is(&doubtful_page(0))
+            .written("flash 0 20 | eeprom 0 20")
             .settled(0),
     ]
 }
@@ -268,14 +302,20 @@ fn lines() -> Vec<Fixed> {
 /// At `off`'s stamp, records that the chip is deaf to in either order.
 fn ties_that_settle() -> Vec<Fixed> {
     vec![
-        started("sta and off in the cycle").add("20 E sta | 20 L off | 30 E sto").eeprom_is(&doubtful_page(0x40)).settled(0),
+        started("sta and off in the cycle")
+            .add("20 E sta | 20 L off | 30 E sto")
+            .eeprom_is(&doubtful_page(0x40))
+            .written("eeprom 1 20")
+            .settled(0),
         started("a byte of a refused frame and off")
             .add("20 E sta | 20 E b a0 1 > no = | 30 E b 00 1 | 30 L off | 40 E sto")
             .eeprom_is(&doubtful_page(0x40))
+            .written("eeprom 1 30")
             .settled(0),
         started("another's address and off in the cycle")
             .add("20 E sta | 30 L off | 30 E b a2 1 | 40 E sto")
             .eeprom_is(&doubtful_page(0x40))
+            .written("eeprom 1 30")
             .settled(0),
     ]
 }
@@ -295,6 +335,7 @@ fn stops() -> Vec<Fixed> {
             .write(60, "a0 00 51 88", "starts .")
             .add("70 E end | 70 L off")
             .eeprom_is(&[(0x50, 0x77, 0x00)])
+            .written("eeprom 1 50")
             .stops(7, 70, 0, 21),
         open_write(from(Start::Doubtful, "sto and off where nothing is sure"), 10).add("20 E sto | 20 L off").stops(7, 20, 0, 5),
         cut("sto and off after a cut")

@@ -60,6 +60,7 @@ fn counters() -> Vec<Fixed> {
             .eeprom_end(20)
             .current_read(30, "40/00 41/00")
             .eeprom_is(&[(0x7e, 0x11, 0), (0x7f, 0x22, 0)])
+            .written("eeprom 1 20")
             .settled(0),
         eeprom("the counter passes a page's end in a read")
             .random_read(10, "00 3f", "3f/00")
@@ -112,13 +113,13 @@ fn writes() -> Vec<Fixed> {
             .eeprom_end(50)
             .current_read(60, "81/00")
             .eeprom_is(&rolled)
-            .settled(0),
+            .written("eeprom 1 50").settled(0),
         script("EEPROM: a write makes sure", Start::Doubtful, "board 00 1 0")
             .write(10, "a0 7f c0 a5", "starts .")
             .eeprom_end(20)
             .random_read(30, "7f c0", "a5/00 00/ff")
             .eeprom_is(&[(0x7fc0, 0xa5, 0)])
-            .settled(0),
+            .written("eeprom 511 20").settled(0),
         eeprom("sto without data starts nothing").write(10, "a0 00 00", "- .").add("20 E end > idle .").settled(0),
         eeprom("a cut write starts nothing")
             .add("10 E sta | 10 E b a0 0 > ack = | 10 E b 00 0 > ack = | 10 E b 10 0 > ack = | 10 E b 55 0 > ack = | 10 E cut | 10 E sto > - .")
@@ -129,18 +130,18 @@ fn writes() -> Vec<Fixed> {
             .write(20, "a0 00 10 55", "starts .")
             .eeprom_end(30)
             .eeprom_is(&[(0x10, 0x55, 0)])
-            .settled(0),
+            .written("eeprom 0 30").settled(0),
         eeprom("a wrong acknowledge counts, and the write goes on")
             .add("10 E sta | 10 E b a0 1 > ack ! | 10 E b 00 1 > ack ! | 10 E b 10 1 > ack ! | 10 E b 55 1 > ack ! | 10 E sto > starts .")
             .eeprom_end(20)
             .eeprom_is(&[(0x10, 0x55, 0)])
-            .settled(4),
+            .written("eeprom 0 20").settled(4),
         eeprom("two frames without sto between: only the second is written")
             .add("10 E sta | 10 E b a0 0 > ack = | 10 E b 00 0 > ack = | 10 E b 10 0 > ack = | 10 E b 55 0 > ack =")
             .write(20, "a0 00 11 66", "starts .")
             .eeprom_end(30)
             .eeprom_is(&[(0x11, 0x66, 0)])
-            .settled(0),
+            .written("eeprom 0 30").settled(0),
     ]
 }
 
@@ -159,28 +160,34 @@ fn polling() -> Vec<Fixed> {
             .eeprom_end(40)
             .add("50 E sta | 50 E b a1 0 > ack = | 50 E b 11 1 > 11/00 = | 50 E sto")
             .eeprom_is(&WRITTEN)
+            .written("eeprom 0 40")
             .settled(1),
         started("one frame is refused once")
             .add("20 E sta | 20 E b a0 1 > no = | 20 E b a0 1 | 20 E b a1 1 | 20 E sto")
             .eeprom_end(30)
             .eeprom_is(&WRITTEN)
+            .written("eeprom 0 30")
             .settled(0),
         started("a sta in the cycle gets no acknowledge after the end")
             .add("20 E sta | 30 E end > ends . | 40 E b a0 1 > no = | 50 E b 00 1 | 60 E sta | 70 E b a0 0 > ack = | 80 E sto")
             .eeprom_is(&WRITTEN)
+            .written("eeprom 0 30")
             .settled(0),
         started("another address is silent in a cycle too")
             .add("20 E sta | 20 E b a2 1 | 20 E sto | 30 E sta | 40 E end > ends . | 50 E b a2 1 | 60 E sto")
             .eeprom_is(&WRITTEN)
+            .written("eeprom 0 40")
             .settled(0),
         started("a second sta after the end is heard")
             .add("20 E sta | 30 E end > ends . | 40 E sta | 50 E b a1 0 > ack = | 60 E b 11 1 > 11/00 = | 70 E sto")
             .eeprom_is(&WRITTEN)
+            .written("eeprom 0 30")
             .settled(0),
         started("a write tried in a cycle leaves the cycle alone")
             .add("20 E sta | 20 E b a0 1 > no = | 20 E b 00 1 | 20 E b 20 1 | 20 E b 77 1 | 20 E sto > - .")
             .eeprom_end(30)
             .eeprom_is(&WRITTEN)
+            .written("eeprom 0 30")
             .settled(0),
     ]
 }
@@ -198,12 +205,14 @@ fn lock_and_supply() -> Vec<Fixed> {
             .add("20 L free | 30 E sto > starts . | 40 L lock")
             .eeprom_end(50)
             .eeprom_is(&WRITTEN)
+            .written("eeprom 0 50")
             .settled(0),
         eeprom("the lock does not hinder a read").add("5 L lock").random_read(10, "00 05", "05/00").settled(0),
         started("off in a cycle: the whole page is doubtful")
             .add("20 L off | 30 E end > idle . | 40 L on | 50 E sta | 50 E b a0 0 > ack = | 60 E sto")
             .random_read(70, "00 0f", "00/ff 00/ff 00/ff")
             .eeprom_is(&doubtful_page(0))
+            .written("eeprom 0 20")
             .settled(0),
         eeprom("off loses the counter")
             .random_read(10, "00 05", "05/00")

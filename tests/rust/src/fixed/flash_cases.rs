@@ -37,7 +37,7 @@ fn op_codes() -> Vec<Fixed> {
             .end(110)
             .rdsr(120, "84")
             .flash_is(&[(7, 0x81, 0x00)])
-            .settled(0),
+            .written("flash 0 40").settled(0),
         flash("identification, then silence", Start::Erased, "board 00 1 0")
             .add("10 F sel | 10 F x 15 ff | 10 F x 00 1f > 1f/00 = | 10 F x 00 60 > 60/00 = | 10 F x 00 1f | 10 F x 00 60 | 10 F des")
             .add("20 F sel | 20 F x 1d ff | 20 F x 00 1e > 1f/00 ! | 20 F x 00 60 > 60/00 = | 20 F des")
@@ -82,6 +82,7 @@ fn status() -> Vec<Fixed> {
             .add("30 F sel | 31 F x 05 ff | 32 F x 00 ff > ff/00 = | 33 F x 00 ff > ff/00 = | 34 F end > ends .")
             .add("35 F x 00 00 > 00/00 = | 36 F x 00 02 > 00/00 ! | 37 F des")
             .flash_is(&[(0, 0x00, 0x00)])
+            .written("flash 0 34")
             .settled(1),
     ]
 }
@@ -121,19 +122,19 @@ fn in_cycles() -> Vec<Fixed> {
             .rdsr(70, "ff")
             .end(80)
             .rdsr(90, "00")
-            .settled(0),
+            .written("flash 0 80").settled(0),
         started_program("a frame refused in a cycle stays void past the end")
             .add("30 F sel | 40 F x 03 ff | 50 F end > ends . | 60 F x 00 ff | 60 F x 00 ff | 60 F x 00 ff | 60 F x 00 ff | 70 F des")
-            .settled(0),
+            .written("flash 0 50").settled(0),
         started_program("an end before the op-code gives full service")
             .add("30 F sel | 40 F end > ends . | 50 F x 03 ff | 50 F x 00 ff | 50 F x 00 ff | 50 F x 00 ff | 50 F x 00 a5 > a5/00 =")
             .add("60 F des")
-            .settled(0),
+            .written("flash 0 40").settled(0),
         started_program("WREN after an end in its frame")
             .add("30 F sel | 40 F end > ends . | 50 F x 06 ff | 60 F des")
             .rdsr(70, "02")
-            .settled(0),
-        started_program("a second end finds no cycle").end(30).add("40 F end > idle .").settled(0),
+            .written("flash 0 40").settled(0),
+        started_program("a second end finds no cycle").end(30).add("40 F end > idle .").written("flash 0 30").settled(0),
         flash("a cycle outside the watched sector is a cycle", Start::Counting, "board 00 1 0")
             .wren(10)
             .frame(20, "02 00 80 05 00", "starts .")
@@ -237,6 +238,7 @@ fn nothing_starts() -> Vec<Fixed> {
             .frame(40, "02 01 7f ff 00", "starts .")
             .end(50)
             .flash_is(&[(0x7fff, 0x00, 0x00)])
+            .written("flash 127 50")
             .settled(0),
         flash("a cut frame starts nothing", Start::Counting, "board 00 1 0")
             .wren(10)
@@ -257,6 +259,7 @@ fn erases() -> Vec<Fixed> {
             .end(60)
             .rdsr(70, "00")
             .flash_is(&everywhere(0xff, 0x00))
+            .written("flash all 60")
             .settled(0),
         flash("sector erase clears doubt", Start::Doubtful, "board 00 1 0")
             .wren(10)
@@ -264,12 +267,14 @@ fn erases() -> Vec<Fixed> {
             .end(30)
             .read(40, "00 12 34", "ff/00")
             .flash_is(&everywhere(0xff, 0x00))
+            .written("flash all 30")
             .settled(0),
         flash("sector erase cut", Start::Counting, "board 00 1 0")
             .wren(10)
             .frame(20, "52 00 00 00", "starts .")
             .add("30 L off")
             .flash_is(&everywhere(0x00, 0xff))
+            .written("flash all 30")
             .settled(0),
         flash("chip erase passes by a locked sector", Start::Counting, "board 04 4 0")
             .wren(10)
@@ -285,6 +290,7 @@ fn erases() -> Vec<Fixed> {
             .rdsr(25, "ff")
             .end(30)
             .flash_is(&everywhere(0xff, 0x00))
+            .written("flash all 30")
             .settled(0),
         flash("chip erase cut in an open sector", Start::Counting, "board 04 3 0")
             .wren(10)
@@ -292,6 +298,7 @@ fn erases() -> Vec<Fixed> {
             .add("30 L off | 40 L on")
             .rdsr(50, "04")
             .flash_is(&everywhere(0x00, 0xff))
+            .written("flash all 30")
             .settled(0),
     ]
 }
@@ -304,29 +311,34 @@ fn programs() -> Vec<Fixed> {
             .end(30)
             .read(40, "00 01 00", "00/0f 00/ff")
             .flash_is(&[(0x100, 0x00, 0x0f), (0x101, 0x00, 0xff)])
+            .written("flash 1 30")
             .settled(0),
         flash("a cut program keeps old doubt", Start::Doubtful, "board 00 1 0")
             .wren(10)
             .frame(20, "02 00 00 00 0f", "starts .")
             .add("30 L off")
+            .written("flash 0 30")
             .settled(0),
         flash("a cut program doubts only what it was to change", Start::Counting, "board 00 1 0")
             .wren(10)
             .frame(20, "02 00 00 24 0f", "starts .")
             .add("30 L off")
             .flash_is(&[(0x24, 0x04, 0x20)])
+            .written("flash 0 30")
             .settled(0),
         flash("a later byte replaces the earlier before the cells see it", Start::Erased, "board 00 1 0")
             .wren(10)
             .frame(20, &format!("02 00 00 00 0f {} f0", "ff ".repeat(255)), "starts .")
             .end(100)
             .flash_is(&[(0, 0xf0, 0x00)])
+            .written("flash 0 100")
             .settled(0),
         flash("a page in the middle of the sector rolls inside", Start::Erased, "board 00 3 0")
             .wren(10)
             .frame(20, "02 01 12 fe 01 02 03 04", "starts .")
             .end(30)
             .flash_is(&[(0x12fe, 1, 0), (0x12ff, 2, 0), (0x1200, 3, 0), (0x1201, 4, 0)])
+            .written("flash 18 30")
             .settled(0),
     ]
 }
@@ -347,6 +359,7 @@ fn supply() -> Vec<Fixed> {
             .frame(20, "02 00 00 00 0f", "starts .")
             .add("30 L off | 40 F end > idle . | 50 L on | 60 F end > idle .")
             .flash_is(&[(0, 0x0f, 0xf0)])
+            .written("flash 0 30")
             .settled(0),
         flash("a second off does nothing, on does nothing to a cycle", Start::Erased, "board 00 1 0")
             .wren(10)
@@ -357,6 +370,7 @@ fn supply() -> Vec<Fixed> {
             .add("90 L off | 91 L off | 92 L on | 93 L on")
             .read(100, "00 00 00", "0f/00")
             .flash_is(&[(0, 0x0f, 0x00)])
+            .written("flash 0 80")
             .settled(0),
         flash("a status write that is cut stops the replay", Start::Counting, "board 00 1 0")
             .rdsr(5, "00")

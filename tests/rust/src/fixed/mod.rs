@@ -7,6 +7,7 @@ mod cut_pages;
 mod eeprom_cases;
 mod flash_cases;
 mod forms;
+mod page_times;
 mod script;
 mod ties;
 
@@ -29,6 +30,7 @@ pub fn all() -> Vec<Fixed> {
     cases.extend(flash_cases::cases());
     cases.extend(eeprom_cases::cases());
     cases.extend(cut_pages::cases());
+    cases.extend(page_times::cases());
     cases.extend(ties::cases());
     cases.extend(buffers::cases());
     cases

@@ -1,9 +1,9 @@
 //! A short way to write a trace down together with its replies. Blanks stand for tabs, `|` parts records, and behind `>`
 //! stand the reply and the match as the listing shows them; without `>` the record is silent. A record with none of that
-//! at or after a stop is not played.
+//! at or after a stop is not played. A page that no script names as written was never.
 
 use super::Fixed;
-use crate::model::call::{result_bytes, Call, REPLIES, RESULT};
+use crate::model::call::{result_bytes, Call, REPLIES, RESULT, TIMES};
 use crate::model::kept::KEPT;
 
 #[derive(Clone, Copy)]
@@ -44,6 +44,8 @@ impl Start {
             flash_mask: vec![self.mask(); KEPT],
             eeprom: values,
             eeprom_mask: vec![self.mask(); KEPT],
+            // As if every page had been written before.
+            times: vec![0x01; TIMES],
             replies: vec![0x5a; REPLIES],
             result: vec![0xa5; RESULT],
         }
@@ -60,6 +62,7 @@ pub struct Script {
     replies: Vec<Option<[u8; 4]>>,
     flash: Vec<Changed>,
     eeprom: Vec<Changed>,
+    times: Vec<u8>,
 }
 
 pub fn script(name: &str, start: Start, board: &str) -> Script {
@@ -70,6 +73,7 @@ pub fn script(name: &str, start: Start, board: &str) -> Script {
         replies: Vec::new(),
         flash: Vec::new(),
         eeprom: Vec::new(),
+        times: vec![0; TIMES],
     }
 }
 
@@ -159,6 +163,28 @@ impl Script {
         self
     }
 
+    /// Pages with the stamp of their last writing as program `pages` lists them, `|` between two; `flash all` is each page of
+    /// the watched sector. What is named later replaces what was before.
+    pub fn written(mut self, pages: &str) -> Script {
+        for page in pages.split('|') {
+            match page.split_whitespace().collect::<Vec<_>>().as_slice() {
+                ["flash", "all", stamp] => (0..128).for_each(|place| self.put_time(place, stamp)),
+                ["flash", page, stamp] => self.put_time(number(page), stamp),
+                ["eeprom", page, stamp] => self.put_time(128 + number(page), stamp),
+                _ => panic!("no written page {:?}", page),
+            }
+        }
+        self
+    }
+
+    fn put_time(&mut self, place: usize, stamp: &str) {
+        let stamp = number(stamp);
+        let bytes = [1, stamp % 256, stamp / 0x100 % 256, stamp / 0x1_0000 % 256, stamp / 0x100_0000];
+        for (byte, value) in bytes.iter().enumerate() {
+            self.times[5 * place + byte] = *value as u8;
+        }
+    }
+
     pub fn settled(self, count: u32) -> Fixed {
         let replies = self.replies.iter().map(|reply| reply.unwrap_or(SILENT)).collect();
         self.outcome(0, 0, count, replies)
@@ -169,6 +195,11 @@ impl Script {
         assert!(self.replies[played..].iter().all(|reply| reply.is_none()), "{}", self.name);
         let replies = self.replies[..played].iter().map(|reply| reply.unwrap_or(SILENT)).collect();
         self.outcome(answer, stamp, count, replies)
+    }
+
+    /// A text that is refused for what stands below these records.
+    pub fn refused(self, told: [u32; 3]) -> Fixed {
+        refused(&self.name, self.text.as_bytes(), told)
     }
 
     fn outcome(self, answer: u32, second: u32, count: u32, replies: Vec<[u8; 4]>) -> Fixed {
@@ -182,6 +213,7 @@ impl Script {
             after.eeprom[place] = value;
             after.eeprom_mask[place] = mask;
         }
+        after.times = self.times;
         after.replies = replies.concat();
         after.replies.resize(REPLIES, 0);
         after.result = result_bytes([answer, second, count, 0]);
@@ -240,6 +272,10 @@ fn reply_bytes(reply: &str) -> [u8; 4] {
     };
     assert!(kind != 2 || word.contains('/'), "no reply {:?}", reply);
     [kind, value, mask, compared]
+}
+
+fn number(digits: &str) -> usize {
+    digits.parse().unwrap_or_else(|_| panic!("no number {:?}", digits))
 }
 
 fn hex(digits: &str) -> u8 {

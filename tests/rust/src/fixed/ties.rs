@@ -81,7 +81,7 @@ fn lock_facts() -> Vec<Fixed> {
             .frame(20, "02 00 00 00 a5", "starts .")
             .add("30 L lock | 40 F sel | 40 L free | 50 F end > ends . | 60 F x 05 ff | 60 L lock | 70 F x 00 80 > 80/00 = | 80 F des")
             .flash_is(&[(0, 0xa5, 0)])
-            .settled(0),
+            .written("flash 0 50").settled(0),
         board("a later return to one state forgives nothing", "80")
             .add("5 L lock | 10 F sel | 10 L free | 20 L lock | 30 F des | 40 L off")
             .stops(7, 10, 0, 1),
@@ -102,7 +102,7 @@ fn flash_with_supply() -> Vec<Fixed> {
             .add("20 F sel | 20 F x 02 ff | 20 F x 00 ff | 20 F x 00 ff | 20 F x 03 ff | 20 F x 01 ff | 30 F des > starts . | 30 L on")
             .end(40)
             .flash_is(&[(3, 0x01, 0x00)])
-            .settled(0),
+            .written("flash 0 40").settled(0),
         board("an end and off", "00").wren(10).frame(20, "62", "starts .").add("30 F end | 30 L off").stops(7, 30, 0, 6),
         board("an end and off without a cycle settle", "00").add("10 F end > idle . | 10 L off").settled(0),
         board("a status write's end and off", "00").wren(10).frame(20, "01 0c", "starts .").add("30 F end | 30 L off").stops(7, 30, 0, 7),
@@ -137,7 +137,7 @@ fn flash_with_lock() -> Vec<Fixed> {
             .add("20 F sel | 20 F x 02 ff | 20 F x 00 ff | 20 F x 00 ff | 20 F x 03 ff | 20 F x 01 ff | 30 F des > starts . | 30 L lock")
             .end(40)
             .flash_is(&[(3, 0x01, 0x00)])
-            .settled(0),
+            .written("flash 0 40").settled(0),
     ]
 }
 
@@ -153,6 +153,7 @@ fn eeprom_with_lines() -> Vec<Fixed> {
             .add("20 E sto > starts . | 20 L free")
             .eeprom_end(30)
             .eeprom_is(&[(0x10, 0x55, 0)])
+            .written("eeprom 0 30")
             .settled(0),
         open_write("sto, lock and free").add("20 E sto | 20 L lock | 20 L free").stops(7, 20, 0, 5),
         open_write("sto and off").add("20 E sto | 20 L off").stops(7, 20, 0, 5),
@@ -170,6 +171,7 @@ fn eeprom_with_lines() -> Vec<Fixed> {
         open_write("the end of a write and lock settle")
             .add("20 E sto > starts . | 30 E end > ends . | 30 L lock")
             .eeprom_is(&[(0x10, 0x55, 0)])
+            .written("eeprom 0 30")
             .settled(0),
         open_write("a sta in a cycle, off and on do not settle")
             .add("20 E sto > starts . | 30 E sta | 30 L off | 30 L on")

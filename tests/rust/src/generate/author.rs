@@ -228,7 +228,7 @@ impl<'a> Author<'a> {
             Event::F(event) => Event::F(self.recorded_flash(event)),
             Event::E(event) => Event::E(self.recorded_eeprom(event)),
             Event::L(_) => {
-                self.board.play(event);
+                self.play(event);
                 event
             }
         };
@@ -241,8 +241,12 @@ impl<'a> Author<'a> {
         recorded
     }
 
+    fn play(&mut self, event: Event) -> Reply {
+        self.board.play(event, self.stamp as u32)
+    }
+
     fn recorded_flash(&mut self, event: FlashEvent) -> FlashEvent {
-        let reply = self.board.play(Event::F(event));
+        let reply = self.play(Event::F(event));
         match (event, reply) {
             (FlashEvent::X { si, .. }, Reply::Byte { value, mask }) => {
                 FlashEvent::X { si, so: (value | (self.random.byte() & mask)) ^ self.wrong_bit() }
@@ -254,7 +258,7 @@ impl<'a> Author<'a> {
 
     fn recorded_eeprom(&mut self, event: EepromEvent) -> EepromEvent {
         let reading = self.board.eeprom.frame == eeprom::Frame::Reading;
-        let reply = self.board.play(Event::E(event));
+        let reply = self.play(Event::E(event));
         match (event, reply) {
             (EepromEvent::B { not_acknowledged, .. }, Reply::Byte { value, mask }) => {
                 let byte = (value | (self.random.byte() & mask)) ^ self.wrong_bit();

@@ -14,21 +14,21 @@ const PLACES: usize = PAGE * PAGES;
 
 const STA: Event = Event::E(EepromEvent::Sta);
 const STO: Event = Event::E(EepromEvent::Sto);
-const END: Event = Event::E(EepromEvent::End);
-const ON: Event = Event::L(LineEvent::On);
-const OFF: Event = Event::L(LineEvent::Off);
-const LOCK: Event = Event::L(LineEvent::Lock);
-const FREE: Event = Event::L(LineEvent::Free);
+pub const E_END: Event = Event::E(EepromEvent::End);
+pub const ON: Event = Event::L(LineEvent::On);
+pub const OFF: Event = Event::L(LineEvent::Off);
+pub const LOCK: Event = Event::L(LineEvent::Lock);
+pub const FREE: Event = Event::L(LineEvent::Free);
 
 /// What comes after a write, stamp by stamp; all of it settles.
 const AFTER_WRITE: [(usize, &[&[Event]]); 8] = [
-    (35, &[&[END]]),
+    (35, &[&[E_END]]),
     (30, &[&[OFF], &[ON]]),
     (8, &[&[OFF, ON]]),
     (8, &[&[LOCK], &[OFF], &[ON], &[FREE]]),
     (6, &[&[STA, OFF], &[STO], &[ON]]),
-    (5, &[&[OFF], &[END], &[OFF], &[ON]]),
-    (4, &[&[END], &[OFF], &[ON]]),
+    (5, &[&[OFF], &[E_END], &[OFF], &[ON]]),
+    (4, &[&[E_END], &[OFF], &[ON]]),
     (4, &[]),
 ];
 
@@ -42,16 +42,18 @@ pub fn cut_pages(random: &mut Random, _number: usize) -> Call {
         let beside = (page + 1) % PAGES;
         let written = author.random.pick(&[page, page, page, beside]);
         write(&mut author, written);
-        after_write(&mut author);
+        let after = author.random.weighted(&AFTER_WRITE);
+        each_stamp(&mut author, after);
         read(&mut author, page);
     }
     let text = author.text;
     call(random, text, dumps)
 }
 
-fn after_write(author: &mut Author) {
-    for stamp in author.random.weighted(&AFTER_WRITE) {
-        for &event in *stamp {
+/// Events that share a stamp, stamp by stamp.
+pub fn each_stamp(author: &mut Author, stamps: &[&[Event]]) {
+    for events in stamps {
+        for &event in *events {
             author.add(event);
         }
         author.next_stamp();
@@ -59,7 +61,7 @@ fn after_write(author: &mut Author) {
 }
 
 /// Mostly a few bytes, at the page's ends more often than elsewhere.
-fn write(author: &mut Author, page: usize) {
+pub fn write(author: &mut Author, page: usize) {
     let any = author.random.below(PAGE);
     let offset = author.random.pick(&[0, PAGE - 2, PAGE - 1, any, any]);
     let length = author.random.pick(&[1, 1, 1, 2, 3, 8, PAGE, PAGE + 2]);
@@ -67,6 +69,14 @@ fn write(author: &mut Author, page: usize) {
     frame.extend(author.random.bytes(length).into_iter().map(sent));
     frame.push(EepromEvent::Sto);
     play(author, frame);
+}
+
+/// One byte for the page.
+pub fn byte_write(author: &mut Author, page: usize) -> Vec<EepromEvent> {
+    let offset = author.random.below(PAGE);
+    let mut frame = opened_at(author, page * PAGE + offset);
+    frame.extend([sent(author.random.byte()), EepromEvent::Sto]);
+    frame
 }
 
 /// From before the page into it, from its end to behind it, or inside.

@@ -1,8 +1,9 @@
 //! Starting images, and buffers for a call.
 
 use super::random::Random;
-use crate::model::call::{Call, REPLIES, RESULT};
+use crate::model::call::{Call, REPLIES, RESULT, TIMES};
 use crate::model::kept::{Kept, KEPT};
+use crate::model::times::{table, Times, EEPROM_PAGES, FLASH_PAGES};
 
 #[derive(Clone, Debug)]
 pub struct Dumps {
@@ -33,7 +34,20 @@ fn partly_doubtful(random: &mut Random) -> Kept {
     Kept { value, mask }
 }
 
-/// A call with buffers of the right lengths; replies and result hold what was there before.
+/// What a table may hold before a call: anything, nothing, or the times of another trace.
+fn old_times(random: &mut Random) -> Vec<u8> {
+    match random.below(3) {
+        0 => random.bytes(TIMES),
+        1 => vec![0; TIMES],
+        _ => table(&any_times(random, FLASH_PAGES), &any_times(random, EEPROM_PAGES)),
+    }
+}
+
+fn any_times(random: &mut Random, pages: usize) -> Times {
+    (0..pages).map(|_| if random.percent(50) { Some(random.next() as u32) } else { None }).collect()
+}
+
+/// A call with buffers of the right lengths; times, replies and result hold what was there before.
 pub fn call(random: &mut Random, text: Vec<u8>, dumps: Dumps) -> Call {
     Call {
         text,
@@ -41,6 +55,7 @@ pub fn call(random: &mut Random, text: Vec<u8>, dumps: Dumps) -> Call {
         flash_mask: dumps.flash.mask,
         eeprom: dumps.eeprom.value,
         eeprom_mask: dumps.eeprom.mask,
+        times: old_times(random),
         replies: random.bytes(REPLIES),
         result: random.bytes(RESULT),
     }
@@ -75,13 +90,13 @@ fn set_in_both(random: &mut Random, call: &mut Call) {
 }
 
 fn change_length(random: &mut Random, call: &mut Call) {
-    let which = random.below(6);
     let far = random.below(50_000);
     let buffers = call.lent_buffers_mut();
+    let which = random.below(buffers.len());
     for (number, buffer) in (0..).zip(buffers) {
         if number == which {
             let right = buffer.len();
-            let length = random.pick(&[0, 1, right.saturating_sub(1), right + 1, right * 2, far, 12, 16, 32_768, 40_000]);
+            let length = random.pick(&[0, 1, right.saturating_sub(1), right + 1, right * 2, far, 12, 16, 3_200, 32_768, 40_000]);
             buffer.resize(length, 0);
         }
     }

@@ -10,6 +10,8 @@ pub mod kinds;
 pub mod prepared;
 pub mod random;
 pub mod reorder;
+pub mod restamp;
 pub mod samples;
 pub mod spoilt;
 pub mod topics;
+pub mod write_cycles;

@@ -8,12 +8,12 @@ use crate::model::flash::Flash;
 use crate::model::record::{EepromEvent, FlashEvent};
 
 const RDSR: u8 = 0x05;
-const WREN: u8 = 0x06;
-const WRSR: u8 = 0x01;
+pub const WREN: u8 = 0x06;
+pub const WRSR: u8 = 0x01;
 const READ: u8 = 0x03;
-const PROGRAM: u8 = 0x02;
-const SECTOR_ERASE: u8 = 0x52;
-const CHIP_ERASE: u8 = 0x62;
+pub const PROGRAM: u8 = 0x02;
+pub const SECTOR_ERASE: u8 = 0x52;
+pub const CHIP_ERASE: u8 = 0x62;
 
 /// WREN, then the instruction, then RDSR in the cycle (so many of a hundred times) or its end.
 fn written(

@@ -1,12 +1,15 @@
-//! The replay as the C call shows it: seven buffers of any length, the answer and what each buffer holds afterwards.
+//! The replay as the C call shows it: eight buffers of any length, the answer and what each buffer holds afterwards.
 
 use super::kept::{Kept, KEPT};
 use super::replay::replay;
 use super::stamp::Orders;
 use super::text::{read, Refusal};
+use super::times::{table, EEPROM_PAGES, ENTRY, FLASH_PAGES};
 
+pub const TIMES: usize = ENTRY * (FLASH_PAGES + EEPROM_PAGES);
 pub const REPLIES: usize = 40_000;
 pub const RESULT: usize = 16;
+pub const BUFFERS: usize = 8;
 
 #[derive(Clone, Debug, PartialEq, Eq)]
 pub struct Call {
@@ -15,18 +18,22 @@ pub struct Call {
     pub flash_mask: Vec<u8>,
     pub eeprom: Vec<u8>,
     pub eeprom_mask: Vec<u8>,
+    pub times: Vec<u8>,
     pub replies: Vec<u8>,
     pub result: Vec<u8>,
 }
 
 impl Call {
     /// The buffers of the call in its order, the text first.
-    pub fn buffers(&self) -> [&Vec<u8>; 7] {
-        [&self.text, &self.flash, &self.flash_mask, &self.eeprom, &self.eeprom_mask, &self.replies, &self.result]
+    pub fn buffers(&self) -> [&Vec<u8>; BUFFERS] {
+        let Call { text, flash, flash_mask, eeprom, eeprom_mask, times, replies, result } = self;
+        [text, flash, flash_mask, eeprom, eeprom_mask, times, replies, result]
     }
 
-    pub fn lent_buffers_mut(&mut self) -> [&mut Vec<u8>; 6] {
-        [&mut self.flash, &mut self.flash_mask, &mut self.eeprom, &mut self.eeprom_mask, &mut self.replies, &mut self.result]
+    /// The same without the text, which is only read.
+    pub fn lent_buffers_mut(&mut self) -> [&mut Vec<u8>; BUFFERS - 1] {
+        let Call { flash, flash_mask, eeprom, eeprom_mask, times, replies, result, .. } = self;
+        [flash, flash_mask, eeprom, eeprom_mask, times, replies, result]
     }
 
     /// Answers, and leaves each buffer as the call must.
@@ -46,6 +53,7 @@ impl Call {
         self.flash_mask = ending.board.flash.kept.mask;
         self.eeprom = ending.board.eeprom.kept.value;
         self.eeprom_mask = ending.board.eeprom.kept.mask;
+        self.times = table(&ending.board.flash.times, &ending.board.eeprom.times);
         self.replies = vec![0; REPLIES];
         for (place, reply) in self.replies.chunks_exact_mut(4).zip(&ending.replies) {
             place.copy_from_slice(reply);
@@ -56,6 +64,7 @@ impl Call {
     fn has_wrong_buffer(&self) -> bool {
         let kept = [&self.flash, &self.flash_mask, &self.eeprom, &self.eeprom_mask];
         kept.iter().any(|buffer| buffer.len() != KEPT)
+            || self.times.len() != TIMES
             || self.replies.len() != REPLIES
             || self.result.len() != RESULT
             || has_bit_in_both(&self.flash, &self.flash_mask)

@@ -1,8 +1,9 @@
-//! The EEPROM ("EEPROM rules", "Supply" with request 3/12).
+//! The EEPROM ("EEPROM rules", "Supply" with request 3/12; its pages' times are request 1/12's).
 
 use super::kept::{rolled, Kept};
 use super::lines::Lines;
 use super::record::{EepromEvent, LineEvent, Reply};
+use super::times::{Times, EEPROM_PAGES};
 
 const PAGE: u16 = 64;
 const PLACES: u16 = 0x8000;
@@ -36,6 +37,7 @@ pub struct Eeprom {
     /// None is a lost counter.
     pub counter: Option<u16>,
     pub kept: Kept,
+    pub times: Times,
 }
 
 fn place_sent(sent: &[u8]) -> u16 {
@@ -44,23 +46,23 @@ fn place_sent(sent: &[u8]) -> u16 {
 
 impl Eeprom {
     pub fn at_start(wired: u8, kept: Kept) -> Eeprom {
-        Eeprom { wired, frame: Frame::Idle, cycle: None, counter: None, kept }
+        Eeprom { wired, frame: Frame::Idle, cycle: None, counter: None, kept, times: vec![None; EEPROM_PAGES] }
     }
 
-    pub fn bus(&mut self, event: EepromEvent, lines: Lines) -> Reply {
+    pub fn bus(&mut self, event: EepromEvent, lines: Lines, stamp: u32) -> Reply {
         match event {
             EepromEvent::Sta => self.start_frame(lines),
             EepromEvent::B { byte, not_acknowledged } => self.byte(byte, not_acknowledged),
             EepromEvent::Cut => self.cut(),
             EepromEvent::Sto => self.stop(lines),
-            EepromEvent::End => self.end(),
+            EepromEvent::End => self.end(stamp),
         }
     }
 
     /// A line record; `before` are the lines as it finds them. The lock is asked for at `sto` alone.
-    pub fn line(&mut self, event: LineEvent, before: Lines) {
+    pub fn line(&mut self, event: LineEvent, before: Lines, stamp: u32) {
         if event == LineEvent::Off && before.supply {
-            self.lose_supply();
+            self.lose_supply(stamp);
         }
     }
 
@@ -135,19 +137,21 @@ impl Eeprom {
         }
     }
 
-    fn end(&mut self) -> Reply {
+    fn end(&mut self, stamp: u32) -> Reply {
         match self.cycle.take() {
             Some(cycle) => {
                 self.store(&cycle);
+                self.times[usize::from(cycle.page)] = Some(stamp);
                 Reply::Ends
             }
             None => Reply::NoCycle,
         }
     }
 
-    fn lose_supply(&mut self) {
+    fn lose_supply(&mut self, stamp: u32) {
         if let Some(cycle) = self.cycle.take() {
             self.doubt_page(cycle.page);
+            self.times[usize::from(cycle.page)] = Some(stamp);
         }
         self.counter = None;
         if self.frame != Frame::Idle {

@@ -1,8 +1,9 @@
-//! The flash ("Flash rules", "Supply").
+//! The flash ("Flash rules", "Supply"; its pages' times are request 1/12's).
 
 use super::kept::{rolled, Kept, KEPT};
 use super::lines::Lines;
 use super::record::{FlashEvent, LineEvent, Reply};
+use super::times::{Times, FLASH_PAGES};
 
 const PAGE: usize = 256;
 const ADDRESSES: usize = 0x2_0000;
@@ -53,6 +54,8 @@ pub struct Flash {
     pub cycle: Option<Cycle>,
     pub status: Status,
     pub kept: Kept,
+    /// Of the watched sector's pages.
+    pub times: Times,
 }
 
 impl Status {
@@ -122,23 +125,24 @@ fn sector_of(address: usize) -> u8 {
 
 impl Flash {
     pub fn at_start(status: u8, watched: u8, kept: Kept) -> Flash {
-        Flash { watched, frame: Frame::Idle, cycle: None, status: Status::of_byte(status, false), kept }
+        let times = vec![None; FLASH_PAGES];
+        Flash { watched, frame: Frame::Idle, cycle: None, status: Status::of_byte(status, false), kept, times }
     }
 
-    pub fn bus(&mut self, event: FlashEvent, lines: Lines) -> Reply {
+    pub fn bus(&mut self, event: FlashEvent, lines: Lines, stamp: u32) -> Reply {
         match event {
             FlashEvent::Sel => self.select(lines),
             FlashEvent::X { si, .. } => self.exchange(si),
             FlashEvent::Cut => self.cut(),
             FlashEvent::Des => self.deselect(),
-            FlashEvent::End => self.end(),
+            FlashEvent::End => self.end(stamp),
         }
     }
 
     /// A line record; `before` are the lines as it finds them.
-    pub fn line(&mut self, event: LineEvent, before: Lines) {
+    pub fn line(&mut self, event: LineEvent, before: Lines, stamp: u32) {
         match event {
-            LineEvent::Off if before.supply => self.lose_supply(),
+            LineEvent::Off if before.supply => self.lose_supply(stamp),
             LineEvent::Lock if !before.lock => self.see_lock(),
             _ => (),
         }
@@ -284,11 +288,12 @@ impl Flash {
         Some(Cycle::Program { page: address / PAGE, data: rolled(address % PAGE, data, PAGE) })
     }
 
-    fn end(&mut self) -> Reply {
+    fn end(&mut self, stamp: u32) -> Reply {
         let cycle = match self.cycle.take() {
             Some(cycle) => cycle,
             None => return Reply::NoCycle,
         };
+        self.touch(&cycle, stamp);
         match cycle {
             Cycle::Program { page, data } => self.change_page(page, &data, |value, mask, sent| (value & sent, mask & sent)),
             Cycle::SectorErase { .. } | Cycle::ChipErase => {
@@ -303,8 +308,9 @@ impl Flash {
     }
 
     /// The supply goes: a cycle is cut, and all that lives outside the cells is gone.
-    fn lose_supply(&mut self) {
+    fn lose_supply(&mut self, stamp: u32) {
         if let Some(cycle) = self.cycle.take() {
+            self.touch(&cycle, stamp);
             self.cut_cycle(cycle);
         }
         self.status = self.status.with_write_enable(false);
@@ -332,6 +338,23 @@ impl Flash {
             Cycle::SectorErase { sector } => *sector == self.watched,
             Cycle::ChipErase => !self.status.locks_out(self.watched),
             Cycle::Program { .. } | Cycle::WriteStatus { .. } => false,
+        }
+    }
+
+    /// The watched sector's pages that a cycle writes: a program its own, even if no bit changes, an erase every one.
+    fn touch(&mut self, cycle: &Cycle, stamp: u32) {
+        match cycle {
+            Cycle::Program { page, .. } => {
+                if sector_of(page * PAGE) == self.watched {
+                    self.times[page % FLASH_PAGES] = Some(stamp);
+                }
+            }
+            Cycle::SectorErase { .. } | Cycle::ChipErase => {
+                if self.erases_watched(cycle) {
+                    self.times = vec![Some(stamp); FLASH_PAGES];
+                }
+            }
+            Cycle::WriteStatus { .. } => (),
         }
     }
 

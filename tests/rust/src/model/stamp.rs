@@ -16,13 +16,13 @@ pub struct Board {
 }
 
 impl Board {
-    pub fn play(&mut self, event: Event) -> Reply {
+    pub fn play(&mut self, event: Event, stamp: u32) -> Reply {
         match event {
-            Event::F(event) => self.flash.bus(event, self.lines),
-            Event::E(event) => self.eeprom.bus(event, self.lines),
+            Event::F(event) => self.flash.bus(event, self.lines, stamp),
+            Event::E(event) => self.eeprom.bus(event, self.lines, stamp),
             Event::L(event) => {
-                self.flash.line(event, self.lines);
-                self.eeprom.line(event, self.lines);
+                self.flash.line(event, self.lines, stamp);
+                self.eeprom.line(event, self.lines, stamp);
                 self.lines = self.lines.after(event);
                 Reply::Silent
             }
@@ -49,6 +49,7 @@ pub enum Verdict {
 /// The records of one stamp, each channel in its own order.
 #[derive(Clone, Debug, Default)]
 pub struct Channels {
+    pub stamp: u32,
     pub flash: Vec<FlashEvent>,
     pub eeprom: Vec<EepromEvent>,
     pub lines: Vec<LineEvent>,
@@ -58,6 +59,7 @@ impl Channels {
     pub fn of(records: &[Record]) -> Channels {
         let mut channels = Channels::default();
         for record in records {
+            channels.stamp = record.stamp;
             match record.event {
                 Event::F(event) => channels.flash.push(event),
                 Event::E(event) => channels.eeprom.push(event),
@@ -91,12 +93,12 @@ pub fn judge(start: &Board, records: &[Record], orders: Orders) -> Verdict {
     }
 }
 
-/// What a stamp leads to where no two orders differ; the line records' replies are silent in any order.
+/// What an order of a stamp leads to; the line records' replies are silent in any order.
 #[derive(Clone, Debug, PartialEq, Eq)]
-struct Outcome {
-    board: Board,
-    flash: Vec<Reply>,
-    eeprom: Vec<Reply>,
+pub struct Outcome {
+    pub board: Board,
+    pub flash: Vec<Reply>,
+    pub eeprom: Vec<Reply>,
 }
 
 impl Outcome {
@@ -117,8 +119,8 @@ impl Outcome {
 }
 
 fn outcome_of_two(start: &Board, channels: &Channels) -> Option<Outcome> {
-    let flash_side = FlashSide { lines: start.lines, flash: start.flash.clone() };
-    let eeprom_side = EepromSide { lines: start.lines, eeprom: start.eeprom.clone() };
+    let flash_side = FlashSide { stamp: channels.stamp, lines: start.lines, flash: start.flash.clone() };
+    let eeprom_side = EepromSide { stamp: channels.stamp, lines: start.lines, eeprom: start.eeprom.clone() };
     let (flash_side, flash) = same_in_every_order(&flash_side, &channels.flash, &channels.lines)?;
     let (eeprom_side, eeprom) = same_in_every_order(&eeprom_side, &channels.eeprom, &channels.lines)?;
     let board = Board { lines: flash_side.lines, flash: flash_side.flash, eeprom: eeprom_side.eeprom };
@@ -134,12 +136,14 @@ trait Side: Clone + PartialEq {
 
 #[derive(Clone, PartialEq, Eq)]
 struct FlashSide {
+    stamp: u32,
     lines: Lines,
     flash: Flash,
 }
 
 #[derive(Clone, PartialEq, Eq)]
 struct EepromSide {
+    stamp: u32,
     lines: Lines,
     eeprom: Eeprom,
 }
@@ -148,11 +152,11 @@ impl Side for FlashSide {
     type Event = FlashEvent;
 
     fn bus(&mut self, event: FlashEvent) -> Reply {
-        self.flash.bus(event, self.lines)
+        self.flash.bus(event, self.lines, self.stamp)
     }
 
     fn line(&mut self, event: LineEvent) {
-        self.flash.line(event, self.lines);
+        self.flash.line(event, self.lines, self.stamp);
         self.lines = self.lines.after(event);
     }
 }
@@ -161,11 +165,11 @@ impl Side for EepromSide {
     type Event = EepromEvent;
 
     fn bus(&mut self, event: EepromEvent) -> Reply {
-        self.eeprom.bus(event, self.lines)
+        self.eeprom.bus(event, self.lines, self.stamp)
     }
 
     fn line(&mut self, event: LineEvent) {
-        self.eeprom.line(event, self.lines);
+        self.eeprom.line(event, self.lines, self.stamp);
         self.lines = self.lines.after(event);
     }
 }
@@ -228,16 +232,19 @@ enum Channel {
 }
 
 fn outcome_of_all(start: &Board, channels: &Channels) -> Option<Outcome> {
-    let mut agreed: Option<Outcome> = None;
-    for order in orders_of_three(channels.flash.len(), channels.eeprom.len(), channels.lines.len()) {
-        let outcome = play_joint(start, channels, &order);
-        match &agreed {
-            Some(other) if *other != outcome => return None,
-            Some(_) => (),
-            None => agreed = Some(outcome),
-        }
+    let mut outcomes = outcomes(start, channels);
+    let agreed = outcomes.next()?;
+    if outcomes.all(|other| other == agreed) {
+        Some(agreed)
+    } else {
+        None
     }
-    agreed
+}
+
+/// Where each order of all three channels leads.
+pub fn outcomes<'a>(start: &'a Board, channels: &'a Channels) -> impl Iterator<Item = Outcome> + 'a {
+    let orders = orders_of_three(channels.flash.len(), channels.eeprom.len(), channels.lines.len());
+    orders.into_iter().map(move |order| play_joint(start, channels, &order))
 }
 
 fn play_joint(start: &Board, channels: &Channels, order: &[Channel]) -> Outcome {
@@ -245,12 +252,13 @@ fn play_joint(start: &Board, channels: &Channels, order: &[Channel]) -> Outcome 
     let mut flash = channels.flash.iter();
     let mut eeprom = channels.eeprom.iter();
     let mut lines = channels.lines.iter();
+    let stamp = channels.stamp;
     for channel in order {
         match channel {
-            Channel::F => outcome.flash.extend(flash.next().map(|&event| outcome.board.play(Event::F(event)))),
-            Channel::E => outcome.eeprom.extend(eeprom.next().map(|&event| outcome.board.play(Event::E(event)))),
+            Channel::F => outcome.flash.extend(flash.next().map(|&event| outcome.board.play(Event::F(event), stamp))),
+            Channel::E => outcome.eeprom.extend(eeprom.next().map(|&event| outcome.board.play(Event::E(event), stamp))),
             Channel::L => lines.next().into_iter().for_each(|&event| {
-                outcome.board.play(Event::L(event));
+                outcome.board.play(Event::L(event), stamp);
             }),
         }
     }

@@ -3,10 +3,10 @@
 use super::call::Call;
 use super::eeprom::Eeprom;
 use super::kept::{rolled, Kept};
-use super::listing::{listing, Files};
-use super::record::{Event, Record};
+use super::listing::{listing, pages, Files, Listing};
+use super::record::{Event, Record, Reply};
 use super::replay::{replay, stamps, start, Ending};
-use super::stamp::{judge, Orders, Verdict};
+use super::stamp::{judge, Board, Orders, Verdict};
 use super::text::{read, Refusal, TEXT_MOST};
 use crate::fixed;
 use crate::generate::author::event_fields;
@@ -19,15 +19,19 @@ use crate::generate::reorder::reorder;
 use crate::generate::samples;
 use crate::generate::spoilt;
 
-fn answered(call: &Call, orders: Orders) -> (u32, Call) {
+pub fn answered(call: &Call, orders: Orders) -> (u32, Call) {
     let mut after = call.clone();
     let answer = after.run(orders);
     (answer, after)
 }
 
-fn listed(trace: Option<&str>) -> String {
+fn printed(listing: Listing, trace: Option<&str>) -> String {
     let trace = trace.map(|lines| lines.replace(' ', "\t").into_bytes());
     listing(&Files { trace, flash: None, eeprom: None }).replace('\t', " ")
+}
+
+fn listed(trace: Option<&str>) -> String {
+    printed(listing, trace)
 }
 
 #[test]
@@ -80,6 +84,23 @@ fn listing_of_every_reply() {
     assert_eq!(listed(Some(trace)), due);
 }
 
+#[test]
+fn pages_of_each_ending() {
+    let heading = "chip page stamp\n";
+    let writes = "board 00 1 0\n0 E sta\n0 E b a0 0\n0 E b 7f 0\n0 E b ff 0\n0 E b 11 0\n0 E sto\n0 E end\n\
+                  5 F sel\n5 F x 06 ff\n5 F des\n6 F sel\n6 F x 02 ff\n6 F x 00 ff\n6 F x 7f ff\n6 F x 00 ff\n6 F x 22 ff\n\
+                  6 F des\n6 E sta\n6 E b a0 1\n6 E b 00 0\n6 E b 3f 0\n6 E b 11 0\n6 E sto\n4294967295 L off\n";
+    let written = "flash 127 4294967295\neeprom 0 4294967295\neeprom 511 0\n";
+    assert_eq!(printed(pages, Some(writes)), format!("{}{}settled 1\n", heading, written));
+    assert_eq!(printed(pages, Some("board 00 1 0\n")), format!("{}settled 0\n", heading));
+    let tied = writes.replace("4294967295 L off", "7 E end\n7 L off");
+    assert_eq!(printed(pages, Some(&tied)), format!("{}eeprom 511 0\nstop 7 7\n", heading));
+    assert_eq!(printed(pages, None), "refused 3 1 1\n");
+    assert_eq!(printed(pages, Some(&writes.replace("off", "of"))), "refused 3 25 3\n");
+    let long = Files { trace: None, flash: None, eeprom: Some(vec![0; 32_769]) };
+    assert_eq!(pages(&long), "refused\t1\t0\t0\n");
+}
+
 /// On random small stamps the two ways to try orders must give the same in everything.
 #[test]
 fn two_channels_at_a_time_are_as_good_as_three() {
@@ -107,6 +128,7 @@ fn another_allowed_order_changes_nothing() {
         assert_eq!((answer, &before.result), (answer_after, &after.result));
         assert!((&before.flash, &before.flash_mask) == (&after.flash, &after.flash_mask));
         assert!((&before.eeprom, &before.eeprom_mask) == (&after.eeprom, &after.eeprom_mask));
+        assert!(before.times == after.times);
         for (place, origin) in other.origins.iter().enumerate() {
             assert_eq!(after.replies[4 * place..4 * place + 4], before.replies[4 * origin..4 * origin + 4]);
         }
@@ -146,20 +168,30 @@ fn doubts_unsent(before: &Eeprom, after: &Eeprom) -> bool {
     })
 }
 
-/// Whether an `off` that is played cuts a write in a page with sure bytes that were not sent.
-fn cuts_sure_bytes(call: &Call) -> bool {
+/// Each stamp up to a stop: the board before it, its records, and where it settles the board after it and the replies.
+pub fn each_stamp(call: &Call, mut see: impl FnMut(&Board, &[Record], Option<(&Board, &[Reply])>)) {
     let trace = read(&call.text).unwrap();
     let flash = Kept { value: call.flash.clone(), mask: call.flash_mask.clone() };
     let eeprom = Kept { value: call.eeprom.clone(), mask: call.eeprom_mask.clone() };
     let mut board = start(trace.board, flash, eeprom);
     for records in stamps(&trace.records) {
         match judge(&board, records, Orders::EachBusWithLines) {
-            Verdict::Settled(after, _) if doubts_unsent(&board.eeprom, &after.eeprom) => return true,
-            Verdict::Settled(after, _) => board = *after,
-            _ => return false,
+            Verdict::Settled(after, replies) => {
+                see(&board, records, Some((&after, &replies)));
+                board = *after;
+            }
+            _ => return see(&board, records, None),
         }
     }
-    false
+}
+
+/// Whether an `off` that is played cuts a write in a page with sure bytes that were not sent.
+fn cuts_sure_bytes(call: &Call) -> bool {
+    let mut cuts = false;
+    each_stamp(call, |before, _, settled| {
+        cuts |= settled.map_or(false, |(after, _)| doubts_unsent(&before.eeprom, &after.eeprom))
+    });
+    cuts
 }
 
 /// The rule of request 3/12 is met often enough for a wrong one to be seen.

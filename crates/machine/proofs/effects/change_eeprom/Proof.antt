@@ -1,4 +1,3 @@
-use Rattle.machine.specs.Effects.{eepromAfter}
 use borrow.Author.Needs.{needs}
 use Rattle.machine.proofs.effects.change_eeprom.Statement.{statement}
 use Rattle.machine.proofs.effects.change_eeprom.Tie as tie
@@ -7,14 +6,16 @@ enum-told : tie.Need-enum-told
 enum-told c = search needs
 
 returns : tie.Need-returns
-unfolding eepromAfter
 returns c = simp (c .enum-told .given .1)
 
-enum-told-2 : tie.Need-enum-told-2
-enum-told-2 c = search needs
+enum-known-pages : tie.Need-enum-known-pages
+enum-known-pages c = search needs
 
-eeprom-whole-requires : tie.Need-eeprom-whole-requires
-eeprom-whole-requires c κs = search needs
+sent-in-requires : tie.Need-sent-in-requires
+sent-in-requires c κs = search needs
+
+store-by-requires : tie.Need-store-by-requires
+store-by-requires c κs = search needs
 
 same-length : tie.Need-same-length
 same-length c = search needs
@@ -23,24 +24,13 @@ same-length-2 : tie.Need-same-length-2
 same-length-2 c = search needs
 
 returns-2 : tie.Need-returns-2
-unfolding eepromAfter
-returns-2 c = simp (c .before .before .before .before .before .before .before .enum-told2 .given .1, c .before .before .before .before .eeprom-whole .ensures)
+returns-2 c = simp (c .before .before .before .before .before .before .before .before .before .before .pages .given .1, c .before .before .before .before .before .before .before .sent-in .ensures, c .before .before .before .before .store-by .ensures)
 
-enum-told-3 : tie.Need-enum-told-3
-enum-told-3 c = search needs
-
-eeprom-cut-requires : tie.Need-eeprom-cut-requires
-eeprom-cut-requires c κs = search needs
-
-same-length-3 : tie.Need-same-length-3
-same-length-3 c = search needs
-
-same-length-4 : tie.Need-same-length-4
-same-length-4 c = search needs
+enum-told-2 : tie.Need-enum-told-2
+enum-told-2 c = search needs
 
 returns-3 : tie.Need-returns-3
-unfolding eepromAfter
-returns-3 c = simp (c .before .before .before .before .before .before .before .enum-told3 .given .1, c .before .before .before .before .eeprom-cut .ensures)
+returns-3 c = simp (c .enum-told2 .given .1)
 
 pub change-eeprom-spec : {M : Type 1} → statement M
 change-eeprom-spec =
@@ -48,13 +38,11 @@ change-eeprom-spec =
     (tie.spec
     enum-told
     returns
-    enum-told-2
-    eeprom-whole-requires
+    enum-known-pages
+    sent-in-requires
+    store-by-requires
     same-length
     same-length-2
     returns-2
-    enum-told-3
-    eeprom-cut-requires
-    same-length-3
-    same-length-4
+    enum-told-2
     returns-3)

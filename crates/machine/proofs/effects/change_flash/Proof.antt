@@ -1,4 +1,3 @@
-use Rattle.machine.specs.Effects.{flashAfter}
 use borrow.Author.Needs.{needs}
 use Rattle.machine.proofs.effects.change_flash.Statement.{statement}
 use Rattle.machine.proofs.effects.change_flash.Tie as tie
@@ -7,14 +6,13 @@ enum-told : tie.Need-enum-told
 enum-told c = search needs
 
 returns : tie.Need-returns
-unfolding flashAfter
 returns c = simp (c .enum-told .given .1)
 
-enum-told-2 : tie.Need-enum-told-2
-enum-told-2 c = search needs
+enum-known-pages : tie.Need-enum-known-pages
+enum-known-pages c = search needs
 
-flash-whole-requires : tie.Need-flash-whole-requires
-flash-whole-requires c κs = search needs
+program-by-requires : tie.Need-program-by-requires
+program-by-requires c κs = search needs
 
 same-length : tie.Need-same-length
 same-length c = search needs
@@ -23,14 +21,13 @@ same-length-2 : tie.Need-same-length-2
 same-length-2 c = search needs
 
 returns-2 : tie.Need-returns-2
-unfolding flashAfter
-returns-2 c = simp (c .before .before .before .before .before .before .before .enum-told2 .given .1, c .before .before .before .before .flash-whole .ensures)
+returns-2 c = simp (c .before .before .before .before .before .before .before .before .before .pages .given .1, c .before .before .before .before .program-by .ensures)
 
-enum-told-3 : tie.Need-enum-told-3
-enum-told-3 c = search needs
+enum-told-2 : tie.Need-enum-told-2
+enum-told-2 c = search needs
 
-flash-cut-requires : tie.Need-flash-cut-requires
-flash-cut-requires c κs = search needs
+erase-by-requires : tie.Need-erase-by-requires
+erase-by-requires c κs = search needs
 
 same-length-3 : tie.Need-same-length-3
 same-length-3 c = search needs
@@ -39,8 +36,7 @@ same-length-4 : tie.Need-same-length-4
 same-length-4 c = search needs
 
 returns-3 : tie.Need-returns-3
-unfolding flashAfter
-returns-3 c = simp (c .before .before .before .before .before .before .before .enum-told3 .given .1, c .before .before .before .before .flash-cut .ensures)
+returns-3 c = simp (c .before .before .before .before .before .before .before .enum-told2 .given .1, c .before .before .before .before .erase-by .ensures)
 
 pub change-flash-spec : {M : Type 1} → statement M
 change-flash-spec =
@@ -48,13 +44,13 @@ change-flash-spec =
     (tie.spec
     enum-told
     returns
-    enum-told-2
-    flash-whole-requires
+    enum-known-pages
+    program-by-requires
     same-length
     same-length-2
     returns-2
-    enum-told-3
-    flash-cut-requires
+    enum-told-2
+    erase-by-requires
     same-length-3
     same-length-4
     returns-3)

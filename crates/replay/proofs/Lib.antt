@@ -1,2 +1,0 @@
--- What the proofs of `replay` share.
-pub mod Cases

@@ -1,0 +1,4 @@
+pub mod Writing
+pub mod Noting
+pub mod Both
+pub mod Spelled
