@@ -2,6 +2,9 @@
 # tally. Rattle's programs and libraries are x86-64 code; on Arm they are linked by Debian's cross compiler and run by
 # qemu-user. A script stands in the top folder when it calls these.
 
+# Where this is set, `cd` may go elsewhere, and says so on the standard output.
+unset CDPATH
+
 say() { printf '%s\n' "$*" >&2; }
 
 have() { command -v "$1" >/dev/null 2>&1; }
@@ -132,11 +135,41 @@ build_plain() {
   quietly target/tests/plain.log cargo_release plain build
 }
 
+# What several scripts need, built side by side: the library keeps one processor busy for a minute, cargo has another. What
+# fails here is built again, and judged, where it is needed. No rt runs beside another: they write the same files.
+prepare() {
+  { trap - INT && build_library; } &
+  build_check && build_plain && quietly target/tests/model.log cargo_release rust test --no-run
+  wait
+}
+
 # build_c PROGRAM SOURCE WORD..: a C program with the library, every warning an error; words are flags and further files.
 build_c() {
   local program=$1 source=$2
   shift 2
   quietly "$program.log" "$CC" -std=c11 -O2 -Wall -Wextra -Werror -pedantic -Iinclude -o "$program" "$source" "$@" "$LIBRARY"
+}
+
+VIEWER=target/viewer/report
+
+# The desk's viewer, with every warning an error; built anew where its files or the library are younger.
+build_viewer() {
+  [ -e "$LIBRARY" ] || say "proving and building the library; the first time this takes some minutes"
+  build_library || return 1
+  if [ -e "$VIEWER" ] && [ -z "$(find viewer include "$LIBRARY" -newer "$VIEWER" -print -quit)" ]; then return 0; fi
+  mkdir -p "$(dirname "$VIEWER")"
+  build_c "$VIEWER" "${STRICTER[@]}" viewer/*.c
+}
+
+# More warnings than a small program is asked for.
+STRICTER=(-Wshadow -Wconversion -Wmissing-prototypes -Wstrict-prototypes)
+
+SANITIZERS=(-g -fsanitize=address,undefined -fno-sanitize-recover=all)
+
+# sanitizers_run COMPILER FOLDER: whether the compiler has the sanitizers and their programs run here.
+sanitizers_run() {
+  echo 'int main(void) { return 0; }' >"$2/probe.c"
+  { "$1" "${SANITIZERS[@]}" -o "$2/probe" "$2/probe.c" && "$2/probe"; } >/dev/null 2>&1
 }
 
 passed=0
@@ -170,6 +203,36 @@ part() {
   passed=$((passed + BASH_REMATCH[1]))
   failed=$((failed + BASH_REMATCH[2]))
   if [ "$status" != 0 ] && [ "${BASH_REMATCH[2]}" = 0 ]; then fail "$name: it ended with status $status"; fi
+}
+
+# beside NAME COMMAND..: starts a part that runs beside what comes after it, until show_besides. What is in the background
+# would not hear of an interrupt by itself.
+besides=()
+beside() {
+  local name=$1
+  shift
+  { trap - INT && "$@" >"$(log_of "$name")" 2>&1; } &
+  besides+=("$! $name")
+}
+
+# Where such a part leaves what it says.
+log_of() { echo "target/tests/${1// /-}.log"; }
+
+# Waits for the parts that were started, and shows each by `part`, in the order of their start.
+show_besides() {
+  local one name status
+  for one in "${besides[@]}"; do
+    name=${one#* } status=0
+    wait "${one%% *}" || status=$?
+    part "$name" ended "$(log_of "$name")" "$status"
+  done
+  besides=()
+}
+
+# ended LOG STATUS: what a command said, and its end.
+ended() {
+  cat "$1"
+  return "$2"
 }
 
 # The last line of a script, and its exit status: the tally.

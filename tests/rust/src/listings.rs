@@ -63,16 +63,18 @@ pub fn check(plan: &Plan) -> io::Result<bool> {
     let mut group = report.group("listings of generated files");
     let mut random = Random::seeded(plan.seed);
     for number in 0..plan.cases {
-        let call = if number % 50 == 49 {
-            kinds::long(&mut random, number / 50)
-        } else {
-            KINDS[number % KINDS.len()](&mut random, number)
-        };
-        let files = files_for(&mut random, &call);
+        let (call, files) = generated(&mut random, number);
         program.judge(&mut group, &files, &[&call]);
     }
     report.close(group);
     Ok(report.finish())
+}
+
+/// The call of a case, and the files that it is made into.
+pub fn generated(random: &mut Random, number: usize) -> (Call, Files) {
+    let call = if number % 50 == 49 { kinds::long(random, number / 50) } else { KINDS[number % KINDS.len()](random, number) };
+    let files = files_for(random, &call);
+    (call, files)
 }
 
 fn files_for(random: &mut Random, call: &Call) -> Files {
@@ -134,15 +136,20 @@ fn unlike(command: &[String], files: &Files, due: &str) -> Option<String> {
 
 fn printed(command: &[String], files: &Files) -> io::Result<Vec<u8>> {
     let folder = fresh_folder()?;
+    write_files(&folder, files)?;
+    let (program, arguments) = command.split_first().ok_or(io::ErrorKind::InvalidInput)?;
+    let output = Command::new(program).args(arguments).current_dir(&folder).output()?;
+    fs::remove_dir_all(&folder)?;
+    Ok(output.stdout)
+}
+
+pub fn write_files(folder: &Path, files: &Files) -> io::Result<()> {
     for (name, content) in [("trace.tsv", &files.trace), ("flash.bin", &files.flash), ("eeprom.bin", &files.eeprom)] {
         if let Some(bytes) = content {
             fs::write(folder.join(name), bytes)?;
         }
     }
-    let (program, arguments) = command.split_first().ok_or(io::ErrorKind::InvalidInput)?;
-    let output = Command::new(program).args(arguments).current_dir(&folder).output()?;
-    fs::remove_dir_all(&folder)?;
-    Ok(output.stdout)
+    Ok(())
 }
 
 /// The words of a command; those that name files here are made to name them from anywhere.

@@ -3,6 +3,7 @@
 //!
 //!   hazelcrook-check check DRIVER_COMMAND [--cases N] [--seed S] [--long]
 //!   hazelcrook-check listings replay|pages COMMAND [--cases N] [--seed S]
+//!   hazelcrook-check folders FOLDER [--cases N] [--seed S]
 //!   hazelcrook-check serve
 //!   hazelcrook-check listing replay|pages
 //!   hazelcrook-check list [growth]
@@ -13,6 +14,7 @@
 mod check;
 mod driver;
 mod fixed;
+mod folders;
 mod generate;
 mod listings;
 mod model;
@@ -24,11 +26,13 @@ use generate::samples::{self, Sample};
 use model::listing::{Listing, PROGRAMS};
 use std::env;
 use std::io::{self, Write};
+use std::path::Path;
 use std::process::exit;
 
 const CASES: usize = 12_000;
 const LONG_CASES: usize = 250_000;
 const LISTING_CASES: usize = 600;
+const FOLDERS: usize = 150;
 
 /// The words after the mode: options with their values, and the rest.
 #[derive(Default)]
@@ -80,6 +84,7 @@ fn run(mode: &str, arguments: Arguments) -> io::Result<bool> {
             let cases = arguments.cases.unwrap_or(LISTING_CASES);
             listings::check(&listings::Plan { command: command.clone(), listing: listing_of(program)?, cases, seed })
         }
+        ("folders", [folder]) => folders::lay_down(Path::new(folder), arguments.cases.unwrap_or(FOLDERS), seed).map(|()| true),
         ("serve", []) => serve::serve().map(|()| true),
         ("listing", [program]) => print(listings::here(listing_of(program)?)?.as_bytes()),
         ("list", []) => print(list(&samples::ALL).as_bytes()),

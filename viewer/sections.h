@@ -1,0 +1,23 @@
+/*
+ * The parts of the report, in their order.
+ */
+#ifndef SECTIONS_H
+#define SECTIONS_H
+
+#include "desk.h"
+
+void put_style(const struct desk *desk);
+
+void put_verdict(const struct desk *desk);
+void put_basis(const struct desk *desk);
+void put_map(const struct desk *desk);
+void put_contents(const struct desk *desk);
+void put_records(const struct desk *desk);
+
+/* Of the verdict, what a refusal says. */
+void put_refused(const struct desk *desk);
+
+/* The answer as the listing's last line has it, blanks for tabs. */
+void put_last_line(const struct desk *desk);
+
+#endif
