@@ -157,7 +157,10 @@ void put_map(const struct desk *desk)
         "<code>end</code> or <code>off</code>), the last one at the stamp told. A thin frame: never written ");
     put_until(desk, "in this trace", "");
     put(", so the page holds what the dump had or, without a dump, is all in doubt. In the square <b>?</b>: some of its bits are in "
-        "doubt; <b>&#215;</b>: all are; nothing: all are sure.</p>\n");
+        "doubt; <b>&#215;</b>: all are; nothing: all are sure.");
+    if (runs(desk))
+        put(" A write cycle still runs (see 1): the pages stand here as they were before it.");
+    put("</p>\n");
     put("<table class=\"map key\"><tbody><tr><td class=\"never sure\"></td><th>never written</th><td class=\"written sure\"></td>"
         "<th>written</th><td class=\"written some\">?</td><th>with doubtful bits</th><td class=\"written all\">&#215;</td>"
         "<th>all in doubt</th><td class=\"never all\">&#215;</td><th>never written, no dump</th></tr></tbody></table>\n");

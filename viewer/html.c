@@ -55,12 +55,16 @@ void put_event(struct span event)
     }
 }
 
-/* Whether two bytes are one letter of U+00A1 to U+058F; U+00AD, a hyphen that is seen at a line's end only, is not. */
+/* Whether two bytes are one letter or sign of Latin (U+00A1 to U+02FF), Greek or Cyrillic (to U+052F). Accents that stand
+ * on the letter before them are none, nor is U+00AD, a hyphen that is seen at a line's end only. */
 static int is_letter(const unsigned char *two)
 {
     unsigned letter = (two[0] & 0x1fu) << 6 | (two[1] & 0x3fu);
 
-    return (two[0] & 0xe0) == 0xc0 && (two[1] & 0xc0) == 0x80 && letter > 0xa0 && letter < 0x590 && letter != 0xad;
+    if ((two[0] & 0xe0) != 0xc0 || (two[1] & 0xc0) != 0x80)
+        return 0;
+    return (letter > 0xa0 && letter < 0x300 && letter != 0xad) || (letter >= 0x370 && letter < 0x483) ||
+           (letter > 0x489 && letter < 0x530);
 }
 
 void put_name(const char *name)

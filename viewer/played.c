@@ -41,6 +41,11 @@ void note_played(struct desk *desk)
         note_record(&desk->played, &record, reply_at(desk, record.line));
 }
 
+int runs(const struct desk *desk)
+{
+    return desk->played.running[0] != 0 || desk->played.running[1] != 0;
+}
+
 int cut_at(const struct desk *desk, uint32_t stamp)
 {
     size_t at = 0;

@@ -9,6 +9,9 @@
 
 void note_played(struct desk *desk);
 
+/* Whether a cycle still runs at the end of what is shown. */
+int runs(const struct desk *desk);
+
 /* Whether a cycle that was over at that stamp was cut by `off`. One that ends at the same stamp would not be settled. */
 int cut_at(const struct desk *desk, uint32_t stamp);
 

@@ -68,7 +68,8 @@ static void put_listing(const struct desk *desk)
         if (!tied)
             put("</tbody>\n");
         open = tied;
-        record = next;
+        if (more)
+            record = next;
     }
 }
 

@@ -2,6 +2,7 @@
  * The verdict in the words of README's tables, with what follows from it.
  */
 #include "html.h"
+#include "played.h"
 #include "sections.h"
 
 #include <stdio.h>
@@ -34,8 +35,11 @@ static void put_lines(const struct desk *desk)
             named++;
         }
     }
-    if (desk->count > named)
-        printf(" and %u more", (unsigned)(desk->count - named));
+    if (desk->count > named) {
+        put(" and ");
+        put_count(desk->count - named);
+        put(" more");
+    }
 }
 
 /* How much was replayed. */
@@ -83,7 +87,7 @@ static void put_compared(const struct desk *desk)
            one ? "this recording is" : "these recordings are", one ? "it" : "them");
 }
 
-/* A cycle that nothing has ended or cut: it has not been at the bytes yet. */
+/* A cycle that nothing has ended or cut. What it has done by then nobody recorded. */
 static void put_running(const struct desk *desk, const struct chip *chip)
 {
     size_t line = desk->played.running[chip->number];
@@ -95,7 +99,8 @@ static void put_running(const struct desk *desk, const struct chip *chip)
         put("where the trace ends");
     else
         printf("before stamp %u", (unsigned)desk->at);
-    put(": what it makes of the bytes is not known, not shown, and not marked as doubtful.</p>\n");
+    printf(": what it alters%s is not known, not shown, and not marked as doubtful.</p>\n",
+           chip->number == 0 ? ", bytes or status," : "");
 }
 
 static void put_common(const struct desk *desk)
@@ -110,7 +115,8 @@ static void put_settled(const struct desk *desk)
 {
     put("<p class=\"answer\"><strong>Settled.</strong> Every order of the records that the stamps allow leads to the same "
         "replies and the same contents. What is shown is what the trace proves, with the dumps that were given; a bit that it "
-        "does not fix is marked as doubtful.</p>\n");
+        "does not fix is marked as doubtful");
+    put(runs(desk) ? ", but for what a write cycle that still runs alters.</p>\n" : ".</p>\n");
     put_common(desk);
 }
 

@@ -32,7 +32,13 @@ part_seen() {
   [ -e "$out/seen/looked.${#looked[@]}" ]
 }
 
-no_word_on_the_console() { ! grep ':CONSOLE' "$out/browser.err"; }
+# Where the page that looks at them has said its one word, the reports' own would be there too.
+no_word_on_the_console() {
+  [ "$(grep -c ':CONSOLE' "$out/browser.err")" = 1 ] && grep -q ':CONSOLE.*"looked"' "$out/browser.err"
+}
+
+# as_said NAME: what a report says in words is what stands in tests/report/said, which was read beside README's tables.
+as_said() { diff "tests/report/said/$1.txt" "$out/seen/$1.said"; }
 
 # as_due NAME..: what the browser saw of these reports is what is due, and nothing that no report may have.
 as_due() {

@@ -81,9 +81,28 @@ make_impossible() {
     { board 00 1 0 && printf '5\tE\tsta\n5\tE\tcut\n6\tE\tend\n7\tE\tb\ta0\t0\n'; } >"$to/eeprom-cut/trace.tsv"
 }
 
+# program ADDRESS BYTE..: write enable and a PROGRAM of the flash, from stamp 10 to its `des` at 12.
+program() {
+  local byte
+  printf '10\tF\tsel\n10\tF\tx\t06\tff\n10\tF\tdes\n11\tF\tsel\n11\tF\tx\t02\tff\n'
+  for byte in "${1:0:2}" "${1:2:2}" "${1:4:2}" "${@:2}"; do printf '11\tF\tx\t%s\tff\n' "$byte"; done
+  printf '12\tF\tdes\n'
+}
+
+# Cycles that run where the trace ends or stops, of both chips; and sixteen bytes in a row with some doubtful bits each.
+make_cycles() {
+  local to=$1 write=$'13\tE\tsta\n13\tE\tb\ta0\t0\n13\tE\tb\t00\t0\n13\tE\tb\t40\t0\n13\tE\tb\t55\t0\n14\tE\tsto\n'
+  { board 84 2 0 && program 008310 a5 && printf %s "$write"; } >"$to/running/trace.tsv" &&
+    bytes 32768 | tee "$to/running/eeprom.bin" >"$to/running/flash.bin" &&
+    { board 00 1 0 && program 000010 a5 && printf '15\tF\tend\n15\tL\toff\n20\tE\tend\n'; } >"$to/running-stop/trace.tsv" &&
+    { board 00 1 0 && program 000010 0f 1e 2d 3c 4b 5a 69 78 87 96 a5 b4 c3 d2 e1 f0 && printf '15\tL\toff\n'; } >"$to/bits/trace.tsv" &&
+    bytes 32768 | tr '\000' '\377' >"$to/bits/flash.bin"
+}
+
 make_played() {
   local to=$1
-  "$CHECK" emit full-tied >"$to/full/trace.tsv" &&
+  # The longest trace that there is.
+  { "$CHECK" emit full-tied && printf '99999\tL\ton\n'; } >"$to/full/trace.tsv" && [ "$(wc -c <"$to/full/trace.tsv")" = 65536 ] &&
     "$CHECK" emit reads | head -c 32768 >"$to/every-page/flash.bin" &&
     { while put_hostile && put_range 0 255; do :; done | head -c 32768; } >"$to/every-page/eeprom.bin" &&
     cp "$to/every-page/flash.bin" "$to/every-page/eeprom.bin" "$to/few-pages/" &&
@@ -101,8 +120,8 @@ make_folders() {
   mkdir -p "$to"/{absent,empty,too-long,no-line-end,return,long-field,tabs,long-line} \
     "$to"/{hostile,hostile-board,low-bytes,high-bytes} \
     "$to"/{short-dump,long-dump,both-dumps,not-selected,flash-cut,not-started,eeprom-cut} \
-    "$to"/{full,every-page,few-pages,wrong-replies,crowd,board-alone} || return 1
-  make_refused "$to" 2>/dev/null && make_impossible "$to" && make_played "$to" 2>/dev/null || return 1
+    "$to"/{full,every-page,few-pages,wrong-replies,crowd,board-alone,running,running-stop,bits} || return 1
+  make_refused "$to" 2>/dev/null && make_impossible "$to" && make_cycles "$to" && make_played "$to" 2>/dev/null || return 1
   for trace in tests/c/traces/*.tsv; do
     mkdir -p "$to/c-$(basename "$trace" .tsv)" && cp "$trace" "$to/c-$(basename "$trace" .tsv)/trace.tsv" || return 1
   done

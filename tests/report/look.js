@@ -5,6 +5,7 @@
 //   name     the folder's name, in the page's head and above it
 //   listing  the records and the answer, as the program replay prints them
 //   pages    the pages written and the answer, as the program pages prints them
+//   said     what the page says in words of the verdict, the board and the pages
 //   faults   what no report may have; nothing is due here
 //   words    all text that can be seen, without blanks, and
 //   heading  the height of the heading's letters, in points (both of the reports that are printed)
@@ -278,7 +279,8 @@ function hidden(page) {
   return found;
 }
 
-const LOOK = ['background-color', 'background-image', 'border-top', 'border-left', 'color', 'font-weight', 'outline'];
+// No colour and no background is among these: a printer may leave them out.
+const LOOK = ['border-top-style', 'border-top-width', 'border-left-style', 'border-left-width', 'font-weight'];
 
 // Elements of different kinds must look different: in what stands in them, if that is asked, or in how they are drawn.
 function alike(elements, kindOf, contentOf) {
@@ -292,6 +294,10 @@ function alike(elements, kindOf, contentOf) {
 }
 
 const squareKind = square => `${classes(square, 'never', 'written')} ${classes(square, 'sure', 'some', 'all')}`;
+
+// But for what every page says alike, which the reports that are held have.
+const said = page => all(page, '#verdict p, #basis li, #map > p, #bytes > p:not(.alike):not(:first-of-type), #records > p + div + p')
+  .map(words => words.textContent);
 
 function faults(page) {
   return [
@@ -311,6 +317,7 @@ function lookAt(name) {
   put(name, 'name', [`title ${page.title}`, `folder ${text(page, 'header #folder')}`]);
   put(name, 'listing', listing(page));
   put(name, 'pages', pages(page));
+  put(name, 'said', said(page));
   put(name, 'faults', faults(page));
   if (!printed.includes(name)) return;
   put(name, 'words', [page.body.innerText.replace(/\s+/g, '')]);
@@ -321,6 +328,7 @@ function next(place) {
   if (place === reports.length) {
     seen.push(`@looked ${place}`);
     document.getElementById('seen').textContent = seen.join('\n');
+    console.log('looked'); // the one word that is due on the console
     return;
   }
   frame.onload = () => {
