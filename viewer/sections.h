@@ -17,7 +17,4 @@ void put_records(const struct desk *desk);
 /* Of the verdict, what a refusal says. */
 void put_refused(const struct desk *desk);
 
-/* The answer as the listing's last line has it, blanks for tabs. */
-void put_last_line(const struct desk *desk);
-
 #endif

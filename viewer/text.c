@@ -14,14 +14,15 @@ static struct span cut_off(struct span *rest, int byte)
     return part;
 }
 
-struct reader lines_of(const struct desk *desk)
+static struct reader lines_of(const struct desk *desk)
 {
     struct reader reader = {{desk->text, desk->text_len}, 0};
 
     return reader;
 }
 
-int next_line(struct reader *reader, struct line *line)
+/* The next line; 0 where the text is at its end. */
+static int next_line(struct reader *reader, struct line *line)
 {
     size_t before = reader->rest.len;
 

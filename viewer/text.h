@@ -31,11 +31,6 @@ struct record {
     struct span event; /* with its fields */
 };
 
-struct reader lines_of(const struct desk *desk);
-
-/* The next line; 0 where the text is at its end. */
-int next_line(struct reader *reader, struct line *line);
-
 struct line line_at(const struct desk *desk, size_t number);
 
 /* The first field of what is left of a line, which is left without it and its tab. */

@@ -7,7 +7,8 @@
 
 #include <stdio.h>
 
-void put_last_line(const struct desk *desk)
+/* The answer as the listing's last line has it, blanks for tabs. */
+static void put_last_line(const struct desk *desk)
 {
     if (desk->answer == HAZELCROOK_SETTLED)
         printf("settled %u", (unsigned)desk->count);
