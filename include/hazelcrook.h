@@ -1,4 +1,5 @@
-/* Hazelcrook: the replay of a memory trace on the caller's own buffers.
+/* Hazelcrook: the replay of a memory trace, and the plan that refills a flash,
+ * on the caller's own buffers.
  *
  * Every function below is proved for every input: it reads and writes nothing
  * but the bytes lent to it, keeps no pointer, and always returns. Two buffers
@@ -21,6 +22,13 @@ extern "C" {
 #define HAZELCROOK_RESULT 16
 #define HAZELCROOK_TEXT 65536 /* the longest text */
 
+/* For a plan. */
+#define HAZELCROOK_CHIP 131072        /* a content of the whole flash */
+#define HAZELCROOK_PLAN_LIST 133124   /* no plan is longer */
+#define HAZELCROOK_PLAN_RESULT 8
+#define HAZELCROOK_ERASE_LENGTH 4     /* an entry that erases */
+#define HAZELCROOK_PROGRAM_LENGTH 260 /* an entry that programs a page */
+
 /* Pages. */
 #define HAZELCROOK_FLASH_PAGES 128  /* of the watched sector, 256 bytes each */
 #define HAZELCROOK_EEPROM_PAGES 512 /* 64 bytes each */
@@ -36,6 +44,21 @@ enum {
   HAZELCROOK_CROWDED = 6,       /* more than 8 F, 8 E or 2 L records at one stamp */
   HAZELCROOK_ORDERS_DIFFER = 7, /* the trace does not fix the order at that stamp */
   HAZELCROOK_STATUS_LOST = 8    /* the flash's status is lost after that stamp */
+};
+
+/* Answers of a plan; 0 is a plan. */
+enum {
+  HAZELCROOK_PLANNED = 0,
+  HAZELCROOK_PLAN_UNFIT = 14,  /* a wrong length, or a status with other bits than 7, 3 and 2 */
+  HAZELCROOK_PLAN_LOCKED = 15, /* a byte that differs stands in a locked sector */
+  HAZELCROOK_PLAN_NO_ROOM = 16 /* the list is too short for the plan */
+};
+
+/* Kinds of a plan's entry (its first byte; then three address bytes). */
+enum {
+  HAZELCROOK_SECTOR_ERASE = 1,
+  HAZELCROOK_CHIP_ERASE = 2,
+  HAZELCROOK_PROGRAM = 3
 };
 
 /* Marks of a page's time (its first byte; then the stamp). */
@@ -99,6 +122,33 @@ size_t hazelcrook_page_place(size_t flash_len, size_t eeprom_len,
                              uint32_t chip, size_t number);
 size_t hazelcrook_page_length(size_t flash_len, size_t eeprom_len,
                               uint32_t chip, size_t number);
+
+/* The list of erases and page programs that takes the flash from its present
+ * content to the wanted one in the fewest write cycles; returns the answer.
+ *
+ * present, wanted: the whole chip's 131,072 bytes, without doubt; status: the
+ * flash's status, whose bits 3 and 2 lock sectors. Any bit but 7, 3 and 2 is
+ * refused: take bit 1 off what was read while write enable was on. In a cycle
+ * the chip answers ff, which tells no status: read again after it.
+ *
+ * list: of any length, also 0; gets the plan's entries, one after the other
+ * from its start; what is behind them stays as it was. An entry is a kind,
+ * three address bytes, high byte first (its sector's or page's first; 0 for
+ * the chip), and for a program its page's 256 wanted bytes. All erases stand
+ * before all programs, each kind by rising address; a chip erase is there only
+ * where no list without one is as short. Each entry is one write cycle; WREN
+ * goes before each.
+ *
+ * result: the answer and the number of entries, four bytes each, low byte
+ * first. Equal contents give answer 0 and number 0. With a result that is not
+ * 8 bytes the answer is 14 and nothing is written anywhere; otherwise a
+ * refusal (14, 15, 16, asked in that order) writes the result, with number 0,
+ * and leaves the list as it was. */
+uint32_t hazelcrook_plan(const uint8_t *present, size_t present_len,
+                         const uint8_t *wanted, size_t wanted_len,
+                         uint8_t status,
+                         uint8_t *list, size_t list_len,
+                         uint8_t *result, size_t result_len);
 
 #ifdef __cplusplus
 }

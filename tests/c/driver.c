@@ -1,21 +1,48 @@
 /*
- * Puts the replay on lent buffers and says what came of it.
+ * Puts a call of the library on lent buffers and says what came of it.
  *
- * A request on standard input: the lengths of the eight buffers (text, flash image, flash mask, EEPROM image, EEPROM
- * mask, page times, replies, result), each in four bytes with the low one first, then the bytes of each. The answer on
- * standard output: the call's answer in four bytes, then the seven lent buffers, as long as they were. Eight zero
- * lengths, or the end of the input, end the program.
+ *   driver          the replay: text, flash image, flash mask, EEPROM image, EEPROM mask, page times, replies, result
+ *   driver plan     the plan: present and wanted content, status (one byte), list, result
+ *
+ * A request on standard input: the lengths of the buffers, each in four bytes with the low one first, then the bytes of
+ * each. The answer on standard output: the call's answer in four bytes, then the buffers that the call may write, as
+ * long as they were. Lengths that are all zero, or the end of the input, end the program.
  *
  * Every buffer lies between two pages that nothing may touch (guarded.h): in even cases against the upper one, in odd
- * cases against the lower; what is left of its pages on the other side must come back unchanged. The text may only be
- * read.
+ * cases against the lower; what is left of its pages on the other side must come back unchanged. The text, the two
+ * contents and the status may only be read.
  */
 #define _DEFAULT_SOURCE
 
 #include "guarded.h"
 #include "hazelcrook.h"
 
-enum { BUFFERS = 8 };
+enum { MOST_BUFFERS = 8, STATUS = 2 };
+
+/* A call, the buffers lent to it, and how many of them, from the first on, may only be read. */
+struct call {
+    uint32_t (*run)(const struct lent *lent);
+    int buffers, only_read;
+};
+
+static uint32_t replay(const struct lent *lent)
+{
+    return hazelcrook_replay(lent[0].bytes, lent[0].len, lent[1].bytes, lent[1].len, lent[2].bytes, lent[2].len,
+                             lent[3].bytes, lent[3].len, lent[4].bytes, lent[4].len, lent[5].bytes, lent[5].len,
+                             lent[6].bytes, lent[6].len, lent[7].bytes, lent[7].len);
+}
+
+static uint32_t plan(const struct lent *lent)
+{
+    if (lent[STATUS].len != 1) {
+        fputs("a status is one byte\n", stderr);
+        exit(2);
+    }
+    return hazelcrook_plan(lent[0].bytes, lent[0].len, lent[1].bytes, lent[1].len, lent[STATUS].bytes[0],
+                           lent[3].bytes, lent[3].len, lent[4].bytes, lent[4].len);
+}
+
+static const struct call REPLAY = {replay, 8, 1}, PLAN = {plan, 5, 3};
 
 /* 1 where all was read, 0 where the input had ended. */
 static int read_all(void *into, size_t len)
@@ -33,14 +60,7 @@ static void write_all(const void *from, size_t len)
         fail("writing an answer");
 }
 
-static uint32_t replay(const struct lent *lent)
-{
-    return hazelcrook_replay(lent[0].bytes, lent[0].len, lent[1].bytes, lent[1].len, lent[2].bytes, lent[2].len,
-                             lent[3].bytes, lent[3].len, lent[4].bytes, lent[4].len, lent[5].bytes, lent[5].len,
-                             lent[6].bytes, lent[6].len, lent[7].bytes, lent[7].len);
-}
-
-static void answer(const struct lent *lent, uint32_t number)
+static void answer(const struct call *call, const struct lent *lent, uint32_t number)
 {
     unsigned char four[4];
     int which;
@@ -48,59 +68,73 @@ static void answer(const struct lent *lent, uint32_t number)
     for (which = 0; which < 4; which++)
         four[which] = (unsigned char)(number >> (8 * which));
     write_all(four, sizeof four);
-    for (which = 1; which < BUFFERS; which++)
+    for (which = call->only_read; which < call->buffers; which++)
         write_all(lent[which].bytes, lent[which].len);
     if (fflush(stdout) != 0)
         fail("writing an answer");
 }
 
-/* Calls the replay; a buffer that was written past its end is told of instead of the answer. */
-static void play(const struct lent *lent)
+/* Makes the call; a buffer that was written past its end is told of instead of the answer. */
+static void make(const struct call *call, const struct lent *lent)
 {
-    uint32_t number = replay(lent);
+    uint32_t number = call->run(lent);
     int which;
 
-    for (which = 0; which < BUFFERS; which++)
+    for (which = 0; which < call->buffers; which++)
         if (!beside_untouched(&lent[which])) {
             fprintf(stderr, "bytes beside buffer %d were changed\n", which);
             exit(3);
         }
-    answer(lent, number);
+    answer(call, lent, number);
 }
 
-/* One request; 0 where there is none. */
-static int serve(enum side side)
+/* The buffers of a request, with their bytes. */
+static void take(const struct call *call, const unsigned char *lengths, enum side side, struct lent *lent)
 {
-    unsigned char lengths[4 * BUFFERS];
-    struct lent lent[BUFFERS];
-    size_t total = 0;
     int which;
 
-    if (!read_all(lengths, sizeof lengths))
-        return 0;
-    for (which = 0; which < BUFFERS; which++)
-        total += number_of(lengths + 4 * which);
-    if (total == 0)
-        return 0;
-    for (which = 0; which < BUFFERS; which++) {
+    for (which = 0; which < call->buffers; which++) {
         lent[which] = lend(number_of(lengths + 4 * which), side);
         if (!read_all(lent[which].bytes, lent[which].len)) {
             fputs("a request broke off\n", stderr);
             exit(2);
         }
+        if (which < call->only_read)
+            only_read(&lent[which]);
     }
-    only_read(&lent[0]);
-    play(lent);
-    for (which = 0; which < BUFFERS; which++)
+}
+
+/* One request; 0 where there is none. */
+static int serve(const struct call *call, enum side side)
+{
+    unsigned char lengths[4 * MOST_BUFFERS];
+    struct lent lent[MOST_BUFFERS];
+    size_t total = 0;
+    int which;
+
+    if (!read_all(lengths, 4 * (size_t)call->buffers))
+        return 0;
+    for (which = 0; which < call->buffers; which++)
+        total += number_of(lengths + 4 * which);
+    if (total == 0)
+        return 0;
+    take(call, lengths, side, lent);
+    make(call, lent);
+    for (which = 0; which < call->buffers; which++)
         take_back(&lent[which]);
     return 1;
 }
 
-int main(void)
+int main(int argc, char **argv)
 {
+    const struct call *call = argc == 2 && strcmp(argv[1], "plan") == 0 ? &PLAN : &REPLAY;
     enum side side = AGAINST_UPPER;
 
-    while (serve(side))
+    if (argc > 1 && call == &REPLAY) {
+        fputs("usage: driver [plan]\n", stderr);
+        return 2;
+    }
+    while (serve(call, side))
         side = side == AGAINST_UPPER ? AGAINST_LOWER : AGAINST_UPPER;
     return 0;
 }

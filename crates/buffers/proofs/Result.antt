@@ -6,9 +6,9 @@ use native.Mathlib.Omega.{arith}
 use borrow.Author.Tests.{eq-eqb}
 use lib.ListN.{length, drop-of-length-le}
 use lib.Seq.{sets, sets-eq}
-use Rattle.record.specs.Lengths.{resultLength}
+use Rattle.record.specs.Lengths.{resultLength, planResultLength}
 use Rattle.record.specs.Word.{word}
-use Rattle.buffers.specs.Buffers.{resultBytes, resultAfter}
+use Rattle.buffers.specs.Buffers.{resultBytes, resultAfter, planResultAfter}
 
 all-set : (vs l : List ℕ) → length l ≡ length vs → sets l 0 vs ≡ vs
 all-set vs l e =
@@ -25,3 +25,8 @@ pub four-words : (answer number count field : ℕ) (old : List ℕ) → length o
     → sets (sets (sets (sets old 0 (word answer)) 4 (word number)) 8 (word count)) 12 (word field) ≡ resultAfter answer number count field old
 unfolding resultAfter resultBytes
 four-words answer number count field old e = all-set (resultBytes answer number count field) old e ∙ simp (eq-eqb _ _ e)
+
+-- two, of a plan's result
+pub two-words : (answer number : ℕ) (old : List ℕ) → length old ≡ planResultLength → sets (sets old 0 (word answer)) 4 (word number) ≡ planResultAfter answer number old
+unfolding planResultAfter
+two-words answer number old e = all-set (word answer ++ word number) old e ∙ simp (eq-eqb _ _ e)

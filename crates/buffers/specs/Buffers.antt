@@ -1,4 +1,4 @@
--- Believed: The lent buffers: when they fit, and what the result holds (document 01, 'Replies and stopping'; document 02, requests 1/12 and 2/12).
+-- Believed: The lent buffers: when they fit, and what the result holds (document 01, 'Replies and stopping'; document 02, requests 1/12, 2/12 and 6/12).
 use Prim.Native.Nat.{ℕ}
 use mathlib.Core.Bool.{Bool, true, false}
 use mathlib.Core.List.{List, [], _∷_, _++_}
@@ -6,7 +6,7 @@ use lib.Bits.{bitAnd}
 use lib.Dec.{eqb}
 use lib.ListN.{length}
 use Rattle.law.specs.Words.{pick}
-use Rattle.record.specs.Lengths.{repliesLength, resultLength}
+use Rattle.record.specs.Lengths.{repliesLength, resultLength, planResultLength}
 use Rattle.record.specs.Word.{word}
 use Rattle.image.specs.Image.{Image, spans}
 use Rattle.image.specs.Images.{Images, imagesOf, everyChip, imageAt, keptBytes}
@@ -50,3 +50,7 @@ resultBytes answer number count field = word answer ++ (word number ++ (word cou
 -- 'with a wrong length nothing is written there'
 unfoldable pub resultAfter : ℕ → ℕ → ℕ → ℕ → List ℕ → List ℕ
 resultAfter answer number count field old = pick (eqb (length old) resultLength) (resultBytes answer number count field) old
+
+-- a plan's result: the answer and the number of entries, or nothing where its length is wrong
+unfoldable pub planResultAfter : ℕ → ℕ → List ℕ → List ℕ
+planResultAfter answer number old = pick (eqb (length old) planResultLength) (word answer ++ word number) old

@@ -1,4 +1,4 @@
-// The lent buffers of a replay: whether they fit, and what is written to the result and to the replies; the table of times has a room of its own.
+// The lent buffers of a replay: whether they fit, and what is written to the result and to the replies; the table of times has a room of its own. And the result of a plan.
 // A buffer of another length than the documents give it is left alone.
 ghost use mathlib.Core.Path.{_≡_};
 ghost use mathlib.Core.List.{[], _∷_};
@@ -9,7 +9,7 @@ ghost use Rattle.record.specs.Replies.{replyBytes};
 ghost use Rattle.record.specs.Word.{word};
 ghost use Rattle.image.specs.Image.{imageOf, spans};
 ghost use Rattle.image.specs.Images.{keptBytes};
-ghost use Rattle.buffers.specs.Buffers.{buffersOf, clear, fit, resultAfter};
+ghost use Rattle.buffers.specs.Buffers.{buffersOf, clear, fit, resultAfter, planResultAfter};
 ghost use Rattle.buffers.specs.Put.{repliesWith};
 use record::Chip;
 use record::Match;
@@ -84,6 +84,17 @@ pub fn put_result(result: &mut [u8], answer: u32, number: usize, count: u32, fie
     put_word(result, 4, number);
     put_word(result, 8, count as usize);
     put_word(result, 12, field as usize);
+}
+
+// A plan's result: the answer's number, and how many entries the list has.
+pub fn put_plan_result(result: &mut [u8], answer: u32, number: u32)
+    ensures { λ _. ⌜ now (result .exit) ≡ planResultAfter answer number (now (result .entry)) ⌝ }
+{
+    if result.len() != record::PLAN_RESULT {
+        return;
+    }
+    put_word(result, 0, answer as usize);
+    put_word(result, 4, number as usize);
 }
 
 // Nothing is written yet, and nothing replied: all of s is 0.

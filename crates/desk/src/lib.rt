@@ -1,4 +1,4 @@
-// The replay on the caller's own buffers: what the desk's viewer, a C program, calls.
+// The replay on the caller's own buffers: what the desk's viewer, a C program, calls. And the plan, for the repair shop's programs: all that is exported stands here.
 // A stamp is judged before a byte of it is played, so nothing is ever undone and no image is copied.
 ghost use mathlib.Core.Path.{_≡_};
 ghost use Prim.Native.Nat.{_+_, _≤_, min};
@@ -18,6 +18,7 @@ ghost use Rattle.machine.specs.Replies.{compared};
 ghost use Rattle.call.specs.Replay.{endedAs, Replays, chipOf};
 ghost use Rattle.call.specs.Run.{endedWith, Runs, goesOn};
 ghost use Rattle.orders.specs.Verdicts.{verdictAnswer};
+ghost use Rattle.fewest.specs.Call.{leftAs, Plans};
 use controls::Controls;
 use orders::Verdict;
 use record::Answer;
@@ -333,4 +334,18 @@ pub extern "C" fn hazelcrook_page_length(
     ensures { λ r. ⌜ r ≡ viewLength (perChip flash eeprom) (chipOf chip) number ⌝ }
 {
     image::view::view_length(flash, eeprom, chip_of(chip), number)
+}
+
+// The plan that refills the flash in the fewest write cycles: answers 0, 14, 15 and 16 (document 02, request 6/12).
+#[no_mangle]
+pub extern "C" fn hazelcrook_plan(
+    present: &[u8],
+    wanted: &[u8],
+    status: u8,
+    list: &mut [u8],
+    result: &mut [u8],
+) -> u32
+    ensures { λ r. ⌜ Plans status (now (present .entry)) (now (wanted .entry)) (now (list .entry)) (now (result .entry)) (leftAs r (now (list .exit)) (now (result .exit))) ⌝ }
+{
+    planner::plan(present, wanted, status, list, result)
 }

@@ -18,6 +18,10 @@ flashSize = flashSectors * flashSector
 abbrev pub sectorPages : ℕ
 sectorPages = flashSector / flashPage
 
+-- all pages of the flash
+abbrev pub chipPages : ℕ
+chipPages = flashSectors * sectorPages
+
 -- 'The low six bits roll over in a 64-byte page'; 'The EEPROM's 32,768 bytes'
 abbrev pub eepromPage : ℕ
 eepromPage = 64

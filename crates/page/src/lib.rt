@@ -15,6 +15,8 @@ pub const FLASH_SIZE: u32 = FLASH_SECTORS * FLASH_SECTOR;
 
 pub const SECTOR_PAGES: u32 = FLASH_SECTOR / FLASH_PAGE;
 
+pub const CHIP_PAGES: u32 = FLASH_SECTORS * SECTOR_PAGES;
+
 // The EEPROM: 64 bytes to a page, 32,768 in all.
 pub const EEPROM_PAGE: u32 = 64;
 

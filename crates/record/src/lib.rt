@@ -1,7 +1,7 @@
 // The vocabulary of document 01: events, records, the board, the two lines, replies and answers, with the paper's number for each case.
 ghost use mathlib.Core.Path.{_≡_};
 ghost use Rattle.law.specs.Deciding.{Decides};
-ghost use Rattle.record.specs.Answers.{answerNumber};
+ghost use Rattle.record.specs.Answers.{answerNumber, planAnswerNumber};
 ghost use Rattle.record.specs.Replies.{replyKind, replyValue, replyMask, matchNumber};
 ghost use Rattle.record.specs.Status.{StatusOk};
 ghost use Rattle.record.specs.Skeletons.{skeletonNumbers};
@@ -173,6 +173,8 @@ pub const REPLY_PLACES: usize = REPLIES / 4;
 
 pub const RESULT: usize = 16;
 
+pub const PLAN_RESULT: usize = 8;
+
 // What a replay answers.
 pub enum Answer {
     Settled,
@@ -200,6 +202,26 @@ pub fn answer_number(a: Answer) -> u32
         Answer::Crowded => 6,
         Answer::OrdersDiffer => 7,
         Answer::StatusLost => 8,
+    }
+}
+
+// What a plan answers.
+pub enum PlanAnswer {
+    Planned,
+    Unfit,
+    Locked,
+    NoRoom,
+}
+
+// The paper's number of such an answer.
+pub fn plan_answer_number(a: PlanAnswer) -> u32
+    ensures { λ r. ⌜ r ≡ planAnswerNumber a ⌝ }
+{
+    match a {
+        PlanAnswer::Planned => 0,
+        PlanAnswer::Unfit => 14,
+        PlanAnswer::Locked => 15,
+        PlanAnswer::NoRoom => 16,
     }
 }
 

@@ -19,7 +19,6 @@ use crate::model::times::ENTRY;
 use crate::report::Report;
 use std::collections::BTreeMap;
 use std::io;
-use std::thread;
 
 const BATCH: usize = 24;
 
@@ -89,24 +88,13 @@ fn by_model(call: &Call, orders: Orders) -> Outcome {
 }
 
 impl Checker {
-    /// The driver's answers, and beside them what `expect` makes of the calls.
-    fn ask<R: Send>(&mut self, calls: &[Call], expect: impl FnOnce() -> R) -> io::Result<(Vec<Answer>, R)> {
-        let driver = &mut self.driver;
-        thread::scope(|scope| {
-            let asking = scope.spawn(move || driver.ask(calls));
-            let expected = expect();
-            let answers = asking.join().unwrap_or_else(|_| Err(io::Error::from(io::ErrorKind::Other)))?;
-            Ok((answers, expected))
-        })
-    }
-
     /// Hand-written outcomes, asked of the driver and of the model.
     fn fixed_cases(&mut self) -> io::Result<()> {
         let mut group = self.report.group("written by hand");
         let mut of_model = self.report.group("written by hand, the model");
         for cases in fixed::all().chunks(BATCH) {
             let calls: Vec<Call> = cases.iter().map(|case| case.call.clone()).collect();
-            let (answers, ()) = self.ask(&calls, || ())?;
+            let answers = self.driver.ask(&calls)?;
             for (case, answer) in cases.iter().zip(&answers) {
                 let expected = (case.answer, case.after.clone());
                 let named = |difference: Option<String>| difference.map(|found| format!("{}: {}", case.name, found));
@@ -159,8 +147,7 @@ impl Checker {
     }
 
     fn random_for(&self, name: &str) -> Random {
-        let mixed = name.bytes().fold(self.seed, |sum, byte| sum.wrapping_mul(31).wrapping_add(u64::from(byte)));
-        Random::seeded(mixed)
+        Random::named(self.seed, name)
     }
 
     fn compared(&mut self, name: &str, calls: impl Iterator<Item = Call>, orders: Orders) -> io::Result<()> {
@@ -168,7 +155,8 @@ impl Checker {
         let mut calls = calls.peekable();
         while calls.peek().is_some() {
             let batch: Vec<Call> = calls.by_ref().take(BATCH).collect();
-            let (answers, expected) = self.ask(&batch, || batch.iter().map(|call| by_model(call, orders)).collect::<Vec<_>>())?;
+            let (answers, expected) =
+                self.driver.ask_beside(&batch, || batch.iter().map(|call| by_model(call, orders)).collect::<Vec<_>>())?;
             for ((call, expected), answer) in batch.iter().zip(&expected).zip(&answers) {
                 group.judge(expected.0, || difference(expected, answer), &[call]);
             }
@@ -190,7 +178,7 @@ impl Checker {
             let variants = [vary(&mut random, &call.text, &trace), vary(&mut random, &call.text, &trace)];
             let mut calls = vec![call.clone()];
             calls.extend(variants.iter().map(|variant| Call { text: variant.text.clone(), ..call.clone() }));
-            let (answers, ()) = self.ask(&calls, || ())?;
+            let answers = self.driver.ask(&calls)?;
             for (place, variant) in variants.iter().enumerate() {
                 let expected = answers[0].as_ref().map(|outcome| (variant.due)(outcome));
                 let found = || match &expected {
@@ -265,7 +253,7 @@ const NAMES: [&str; BUFFERS] =
 const BY_WEIGHT: [usize; BUFFERS - 1] = [7, 6, 5, 1, 2, 3, 4];
 
 /// The first thing in which an answer is not as expected.
-fn difference(expected: &Outcome, answer: &Answer) -> Option<String> {
+fn difference(expected: &Outcome, answer: &Answer<Call>) -> Option<String> {
     let (number, after) = match answer {
         Some(outcome) => outcome,
         None => return Some(String::from("the driver ended without an answer")),
@@ -300,6 +288,6 @@ fn told(which: usize, place: usize, due: &[u8], found: &[u8]) -> String {
 }
 
 /// The numbers of a result.
-fn numbers(result: &[u8]) -> Vec<u32> {
+pub fn numbers(result: &[u8]) -> Vec<u32> {
     result.chunks_exact(4).map(|four| u32::from_le_bytes([four[0], four[1], four[2], four[3]])).collect()
 }

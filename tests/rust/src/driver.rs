@@ -1,13 +1,12 @@
 //! A driver as a process of its own, asked over its standard input and output.
 
-use crate::model::call::Call;
-use crate::protocol::{read_answer, write_request};
+use crate::protocol::{read_answer, write_request, Asked};
 use std::io::{self, BufReader, BufWriter, Write};
 use std::process::{Child, ChildStdin, ChildStdout, Command, ExitStatus, Stdio};
 use std::thread;
 
 /// None where the driver ended instead of answering.
-pub type Answer = Option<(u32, Call)>;
+pub type Answer<C> = Option<(u32, C)>;
 
 pub struct Driver {
     command: Vec<String>,
@@ -50,8 +49,8 @@ impl Driver {
     }
 
     /// Asks all calls one after the other. A driver that ends at one is started again for those after it.
-    pub fn ask(&mut self, calls: &[Call]) -> io::Result<Vec<Answer>> {
-        let mut answers: Vec<Answer> = Vec::new();
+    pub fn ask<C: Asked>(&mut self, calls: &[C]) -> io::Result<Vec<Answer<C>>> {
+        let mut answers: Vec<Answer<C>> = Vec::new();
         while answers.len() < calls.len() {
             let rest = &calls[answers.len()..];
             let found = self.ask_while_running(rest);
@@ -65,7 +64,17 @@ impl Driver {
         Ok(answers)
     }
 
-    fn ask_while_running(&mut self, calls: &[Call]) -> Vec<(u32, Call)> {
+    /// The answers, and what `expect` makes of the calls in the meantime.
+    pub fn ask_beside<C: Asked, R: Send>(&mut self, calls: &[C], expect: impl FnOnce() -> R) -> io::Result<(Vec<Answer<C>>, R)> {
+        thread::scope(|scope| {
+            let asking = scope.spawn(|| self.ask(calls));
+            let expected = expect();
+            let answers = asking.join().unwrap_or_else(|_| Err(io::Error::from(io::ErrorKind::Other)))?;
+            Ok((answers, expected))
+        })
+    }
+
+    fn ask_while_running<C: Asked>(&mut self, calls: &[C]) -> Vec<(u32, C)> {
         let Running { input, output, .. } = &mut self.running;
         thread::scope(|scope| {
             // Written beside the reading: neither side may wait for the other with a full pipe.

@@ -8,7 +8,7 @@ use crate::generate::write_cycles::write_cycles;
 use crate::model::call::Call;
 use crate::model::kept::{Kept, KEPT};
 use crate::model::listing::{Files, Listing};
-use crate::report::{fresh_folder, Group, Report};
+use crate::report::{fresh_folder, Group, Report, Saved};
 use std::fs;
 use std::io;
 use std::path::Path;
@@ -16,11 +16,12 @@ use std::process::Command;
 
 /// The listing that a program owes for the files in the present folder.
 pub fn here(listing: Listing) -> io::Result<String> {
-    let files = Files { trace: present("trace.tsv")?, flash: present("flash.bin")?, eeprom: present("eeprom.bin")? };
+    let files = Files { trace: file_here("trace.tsv")?, flash: file_here("flash.bin")?, eeprom: file_here("eeprom.bin")? };
     Ok(listing(&files))
 }
 
-fn present(name: &str) -> io::Result<Option<Vec<u8>>> {
+/// A file of the present folder; None where it is absent.
+pub fn file_here(name: &str) -> io::Result<Option<Vec<u8>>> {
     match fs::read(name) {
         Ok(bytes) => Ok(Some(bytes)),
         Err(error) if error.kind() == io::ErrorKind::NotFound => Ok(None),
@@ -104,9 +105,9 @@ struct Program {
 }
 
 impl Program {
-    fn judge(&self, group: &mut Group, files: &Files, calls: &[&Call]) {
+    fn judge(&self, group: &mut Group, files: &Files, calls: &[&dyn Saved]) {
         let due = (self.listing)(files);
-        group.judge(answer_told(&due), || unlike(&self.command, files, &due), calls);
+        group.judge(answer_told(&due), || unlike(&self.command, &named(files), &due), calls);
     }
 }
 
@@ -121,7 +122,7 @@ fn answer_told(listing: &str) -> u32 {
 }
 
 /// The first line in which the program's listing is not as it must be.
-fn unlike(command: &[String], files: &Files, due: &str) -> Option<String> {
+pub fn unlike(command: &[String], files: &NamedFiles, due: &str) -> Option<String> {
     let found = match printed(command, files) {
         Ok(found) => String::from_utf8_lossy(&found).into_owned(),
         Err(error) => return Some(format!("the program did not run: {}", error)),
@@ -134,17 +135,28 @@ fn unlike(command: &[String], files: &Files, due: &str) -> Option<String> {
     Some(format!("listing line {}: {:?} where {:?} is due", place + 1, line(&found), line(due)))
 }
 
-fn printed(command: &[String], files: &Files) -> io::Result<Vec<u8>> {
+fn printed(command: &[String], files: &NamedFiles) -> io::Result<Vec<u8>> {
     let folder = fresh_folder()?;
-    write_files(&folder, files)?;
+    write_named(&folder, files)?;
     let (program, arguments) = command.split_first().ok_or(io::ErrorKind::InvalidInput)?;
     let output = Command::new(program).args(arguments).current_dir(&folder).output()?;
     fs::remove_dir_all(&folder)?;
     Ok(output.stdout)
 }
 
+/// The files that a program finds in its folder, each None where it is absent.
+pub type NamedFiles<'a> = Vec<(&'static str, &'a Option<Vec<u8>>)>;
+
+fn named(files: &Files) -> NamedFiles<'_> {
+    vec![("trace.tsv", &files.trace), ("flash.bin", &files.flash), ("eeprom.bin", &files.eeprom)]
+}
+
 pub fn write_files(folder: &Path, files: &Files) -> io::Result<()> {
-    for (name, content) in [("trace.tsv", &files.trace), ("flash.bin", &files.flash), ("eeprom.bin", &files.eeprom)] {
+    write_named(folder, &named(files))
+}
+
+fn write_named(folder: &Path, files: &NamedFiles) -> io::Result<()> {
+    for (name, content) in files {
         if let Some(bytes) = content {
             fs::write(folder.join(name), bytes)?;
         }
@@ -153,7 +165,7 @@ pub fn write_files(folder: &Path, files: &Files) -> io::Result<()> {
 }
 
 /// The words of a command; those that name files here are made to name them from anywhere.
-fn whole_paths(command: &str) -> Vec<String> {
+pub fn whole_paths(command: &str) -> Vec<String> {
     command.split_whitespace().map(whole_path).collect()
 }
 

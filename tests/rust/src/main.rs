@@ -1,11 +1,12 @@
-//! The independent check of the replay: a plain model of document 01 with requests 1/12, 2/12 and 3/12, generated traces, and a
-//! comparison over pipes.
+//! The independent check of the replay and of the plan: a plain model of document 01 with requests 1/12, 2/12, 3/12 and 6/12,
+//! generated traces and contents, and a comparison over pipes.
 //!
 //!   hazelcrook-check check DRIVER_COMMAND [--cases N] [--seed S] [--long]
-//!   hazelcrook-check listings replay|pages COMMAND [--cases N] [--seed S]
+//!   hazelcrook-check plans DRIVER_COMMAND [--cases N] [--seed S] [--long]
+//!   hazelcrook-check listings replay|pages|plan COMMAND [--cases N] [--seed S]
 //!   hazelcrook-check folders FOLDER [--cases N] [--seed S]
-//!   hazelcrook-check serve
-//!   hazelcrook-check listing replay|pages
+//!   hazelcrook-check serve [plan]
+//!   hazelcrook-check listing replay|pages|plan
 //!   hazelcrook-check list [growth]
 //!   hazelcrook-check emit NAME
 //!
@@ -18,6 +19,8 @@ mod folders;
 mod generate;
 mod listings;
 mod model;
+mod plan_listings;
+mod plans;
 mod protocol;
 mod report;
 mod serve;
@@ -31,8 +34,15 @@ use std::process::exit;
 
 const CASES: usize = 12_000;
 const LONG_CASES: usize = 250_000;
+const PLAN_CASES: usize = 2_000;
+const LONG_PLAN_CASES: usize = 50_000;
 const LISTING_CASES: usize = 600;
+/// A listing of a plan stands for so many cases: it takes long to print.
+const A_PLAN: usize = 10;
 const FOLDERS: usize = 150;
+
+/// The program whose files and listing are of their own kind, and the driver's word for its call.
+const PLAN: &str = "plan";
 
 /// The words after the mode: options with their values, and the rest.
 #[derive(Default)]
@@ -80,12 +90,22 @@ fn run(mode: &str, arguments: Arguments) -> io::Result<bool> {
         ("check", [command]) => {
             check::check(&check::Plan { command: command.clone(), cases: arguments.cases.unwrap_or(usual), seed })
         }
+        ("plans", [command]) => {
+            let usual = if arguments.long { LONG_PLAN_CASES } else { PLAN_CASES };
+            plans::check(&plans::Plan { command: command.clone(), cases: arguments.cases.unwrap_or(usual), seed })
+        }
+        ("listings", [program, command]) if program == PLAN => {
+            let cases = arguments.cases.unwrap_or(LISTING_CASES) / A_PLAN;
+            plan_listings::check(&plan_listings::Plan { command: command.clone(), cases, seed })
+        }
         ("listings", [program, command]) => {
             let cases = arguments.cases.unwrap_or(LISTING_CASES);
             listings::check(&listings::Plan { command: command.clone(), listing: listing_of(program)?, cases, seed })
         }
         ("folders", [folder]) => folders::lay_down(Path::new(folder), arguments.cases.unwrap_or(FOLDERS), seed).map(|()| true),
         ("serve", []) => serve::serve().map(|()| true),
+        ("serve", [plan]) if plan == PLAN => serve::serve_plans().map(|()| true),
+        ("listing", [program]) if program == PLAN => print(plan_listings::here()?.as_bytes()),
         ("listing", [program]) => print(listings::here(listing_of(program)?)?.as_bytes()),
         ("list", []) => print(list(&samples::ALL).as_bytes()),
         ("list", [growth]) if growth == "growth" => print(list(&samples::GROWTH).as_bytes()),

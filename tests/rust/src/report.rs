@@ -1,6 +1,9 @@
 //! What a check prints, and where it lays down the cases that failed.
 
 use crate::model::call::{Call, BUFFERS};
+use crate::model::plan::PlanCall;
+use crate::model::plan_listing::PlanFiles;
+use crate::protocol::Asked;
 use std::collections::BTreeMap;
 use std::env;
 use std::fs;
@@ -50,7 +53,7 @@ impl Report {
 
 impl Group {
     /// Counts a case by the answer due; what `difference` finds is shown with the calls it came from.
-    pub fn judge(&mut self, answer: u32, difference: impl FnOnce() -> Option<String>, calls: &[&Call]) {
+    pub fn judge(&mut self, answer: u32, difference: impl FnOnce() -> Option<String>, calls: &[&dyn Saved]) {
         *self.answers.entry(answer).or_insert(0) += 1;
         match difference() {
             None => self.passed += 1,
@@ -58,31 +61,57 @@ impl Group {
                 self.failed += 1;
                 if self.failed <= self.may_show {
                     println!("FAILED in {}: {}", self.name, found);
-                    calls.iter().for_each(|call| show(call));
+                    calls.iter().for_each(|call| show(*call));
                 }
             }
         }
     }
 }
 
-fn show(call: &Call) {
+/// What is laid down of a case that failed.
+pub trait Saved {
+    /// The files by name, with their bytes.
+    fn files(&self) -> Vec<(&'static str, &[u8])>;
+}
+
+const CALL_FILES: [&str; BUFFERS] =
+    ["trace.tsv", "flash.bin", "flash-mask.bin", "eeprom.bin", "eeprom-mask.bin", "times.bin", "replies.bin", "result.bin"];
+const PLAN_FILES: [&str; 5] = ["present.bin", "wanted.bin", "status.bin", "list.bin", "result.bin"];
+
+impl Saved for Call {
+    fn files(&self) -> Vec<(&'static str, &[u8])> {
+        CALL_FILES.into_iter().zip(self.asked()).collect()
+    }
+}
+
+impl Saved for PlanCall {
+    fn files(&self) -> Vec<(&'static str, &[u8])> {
+        PLAN_FILES.into_iter().zip(self.asked()).collect()
+    }
+}
+
+impl Saved for PlanFiles {
+    fn files(&self) -> Vec<(&'static str, &[u8])> {
+        self.named().into_iter().filter_map(|(name, content)| Some((name, content.as_deref()?))).collect()
+    }
+}
+
+fn show(call: &dyn Saved) {
     match save(call) {
         Ok(folder) => println!("  its buffers are in {}", folder.display()),
         Err(error) => println!("  its buffers could not be saved: {}", error),
     }
-    if call.text.len() <= SHOWN_TEXT {
-        println!("{}", String::from_utf8_lossy(&call.text));
+    for (name, bytes) in call.files() {
+        if name == CALL_FILES[0] && bytes.len() <= SHOWN_TEXT {
+            println!("{}", String::from_utf8_lossy(bytes));
+        }
     }
 }
 
-/// A file for each buffer of a call.
-const SAVED: [&str; BUFFERS] =
-    ["trace.tsv", "flash.bin", "flash-mask.bin", "eeprom.bin", "eeprom-mask.bin", "times.bin", "replies.bin", "result.bin"];
-
-fn save(call: &Call) -> io::Result<PathBuf> {
+fn save(call: &dyn Saved) -> io::Result<PathBuf> {
     let folder = fresh_folder()?;
-    for (name, buffer) in SAVED.iter().zip(call.buffers()) {
-        fs::write(folder.join(name), buffer)?;
+    for (name, bytes) in call.files() {
+        fs::write(folder.join(name), bytes)?;
     }
     Ok(folder)
 }

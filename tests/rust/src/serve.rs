@@ -1,14 +1,24 @@
 //! The model in the place of a driver, so that the comparison itself can be tried.
 
+use crate::model::call::Call;
+use crate::model::plan::PlanCall;
 use crate::model::stamp::Orders;
-use crate::protocol::{read_request, write_answer};
+use crate::protocol::{read_request, write_answer, Asked};
 use std::io;
 
 pub fn serve() -> io::Result<()> {
+    answer_all(|call: &mut Call| call.run(Orders::EachBusWithLines))
+}
+
+pub fn serve_plans() -> io::Result<()> {
+    answer_all(PlanCall::run)
+}
+
+fn answer_all<C: Asked>(run: fn(&mut C) -> u32) -> io::Result<()> {
     let mut input = io::BufReader::new(io::stdin());
     let mut output = io::BufWriter::new(io::stdout());
-    while let Some(mut call) = read_request(&mut input)? {
-        let answer = call.run(Orders::EachBusWithLines);
+    while let Some(mut call) = read_request::<C>(&mut input)? {
+        let answer = run(&mut call);
         write_answer(&mut output, answer, &call)?;
     }
     Ok(())

@@ -8,6 +8,7 @@ mod eeprom_cases;
 mod flash_cases;
 mod forms;
 mod page_times;
+pub mod plans;
 mod script;
 mod ties;
 

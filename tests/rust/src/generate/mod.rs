@@ -7,6 +7,8 @@ pub mod dumps;
 pub mod eeprom_frames;
 pub mod flash_frames;
 pub mod kinds;
+pub mod plan_traces;
+pub mod plans;
 pub mod prepared;
 pub mod random;
 pub mod reorder;

@@ -7,6 +7,11 @@ impl Random {
         Random(seed)
     }
 
+    /// One of its own for each name.
+    pub fn named(seed: u64, name: &str) -> Random {
+        Random(name.bytes().fold(seed, |sum, byte| sum.wrapping_mul(31).wrapping_add(u64::from(byte))))
+    }
+
     pub fn next(&mut self) -> u64 {
         self.0 = self.0.wrapping_add(0x9e37_79b9_7f4a_7c15);
         let mut mixed = self.0;

@@ -1,7 +1,7 @@
 //! The fields of a line ("The trace"), and of a line of wrong form the first bad one (request 2/12).
 
 pub const STAMP_MOST: u64 = 4_294_967_295;
-const STATUS_BITS: u8 = 0b1000_1100;
+pub const STATUS_BITS: u8 = 0b1000_1100;
 
 /// What tabs part.
 pub fn fields(line: &[u8]) -> Vec<&[u8]> {

@@ -88,7 +88,7 @@ impl Status {
         matches!(self, Status::Known { write_enable: true, .. })
     }
 
-    fn locks_out(self, sector: u8) -> bool {
+    pub fn locks_out(self, sector: u8) -> bool {
         match self {
             Status::Known { bp1: false, bp0: false, .. } => false,
             Status::Known { bp1: false, bp0: true, .. } => sector == 4,

@@ -1,6 +1,6 @@
 //! The replay as plain Rust, written from document 01 and requests 1/12, 2/12 and 3/12 alone and without thrift: every order of
-//! a stamp starts from a fresh copy of a chip with its image and its pages' times, and everything is compared. Nothing here is
-//! shared with the proved code.
+//! a stamp starts from a fresh copy of a chip with its image and its pages' times, and everything is compared. The plan is of
+//! request 6/12 and document 01. Nothing here is shared with the proved code.
 
 pub mod call;
 pub mod eeprom;
@@ -9,12 +9,16 @@ pub mod flash;
 pub mod kept;
 pub mod lines;
 pub mod listing;
+pub mod plan;
+pub mod plan_listing;
 pub mod record;
 pub mod replay;
 pub mod stamp;
 pub mod text;
 pub mod times;
 
+#[cfg(test)]
+mod plan_tests;
 #[cfg(test)]
 mod tests;
 #[cfg(test)]

@@ -1,0 +1,4 @@
+-- What `plan` prints, and what the code that prints it promises.
+pub mod Printed
+pub mod Lines
+pub mod Reading

@@ -1,0 +1,12 @@
+pub mod Cycles
+pub mod Facts
+pub mod Traces
+pub mod Counting
+pub mod Costs
+pub mod Attains
+pub mod Lower
+pub mod Ordered
+pub mod Theorems
+pub mod Sizes
+pub mod Only
+pub mod Outcomes

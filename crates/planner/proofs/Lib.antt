@@ -1,0 +1,3 @@
+-- Laws about the bytes of a list of entries, and about the promise.
+pub mod Laying
+pub mod Ending
