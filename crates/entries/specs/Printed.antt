@@ -4,6 +4,8 @@ use mathlib.Core.Path.{_≡_}
 use mathlib.Core.List.{List, [], _∷_, _++_}
 use lib.ListN.{length}
 use Rattle.page.specs.Geometry.{flashPage, flashSize, chipPages}
+use Rattle.record.specs.declared.PlanAnswer.the-variants.{Unfit, Locked}
+use Rattle.record.specs.Answers.{planAnswerNumber}
 use Rattle.record.specs.Status.{StatusOk}
 use Rattle.field.specs.Decimal.{decimal}
 use Rattle.field.specs.Hex.{hexField}
@@ -61,10 +63,10 @@ module _ (present wanted text : List ℕ) where
     pub spelled : text ≡ hexField status ++ lf
     pub status-bits : StatusOk status
 
-  -- 16 is never printed: the program lends the call a list that has room for every plan
+  -- the refusal for want of room is never printed: the program lends the call a list that has room for every plan
   pub data PlanPrinted : List ℕ → Type 0 where
-    unfit : ((status : ℕ) → Usable status → ⊥) → PlanPrinted (refusalLine 14)
-    locked : (status : ℕ) → Usable status → DiffersLocked status present wanted → PlanPrinted (refusalLine 15)
+    unfit : ((status : ℕ) → Usable status → ⊥) → PlanPrinted (refusalLine (planAnswerNumber Unfit))
+    locked : (status : ℕ) → Usable status → DiffersLocked status present wanted → PlanPrinted (refusalLine (planAnswerNumber Locked))
     planned : (status : ℕ) (os : List Entry) → Usable status → (DiffersLocked status present wanted → ⊥) → IsPlan status present wanted os
         → PlanPrinted (entryLines os ++ cyclesLine (length os))
 
