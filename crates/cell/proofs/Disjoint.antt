@@ -19,10 +19,10 @@ and-half a b = and-shr a b 1
 or-half : (a b : ℕ) → bitOr a b / 2 ≡ bitOr (a / 2) (b / 2)
 or-half a b = or-shr a b 1
 
-and-odd : (a b : ℕ) → bitAnd a b % 2 ≡ min (a % 2) (b % 2)
+pub and-odd : (a b : ℕ) → bitAnd a b % 2 ≡ min (a % 2) (b % 2)
 and-odd a b = omega (arith, and-step a b)
 
-or-odd : (a b : ℕ) → bitOr a b % 2 ≡ max (a % 2) (b % 2)
+pub or-odd : (a b : ℕ) → bitOr a b % 2 ≡ max (a % 2) (b % 2)
 or-odd a b = omega (arith, or-step a b)
 
 pub and-assoc : (a b c : ℕ) → bitAnd (bitAnd a b) c ≡ bitAnd a (bitAnd b c)

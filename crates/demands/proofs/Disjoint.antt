@@ -22,20 +22,11 @@ use Rattle.record.specs.Replies.{replyValue, replyMask}
 use Rattle.cell.specs.Rules.{Disjoint}
 use Rattle.record.specs.declared.Chip.{Chip}
 use Rattle.image.specs.Image.{Image, Clean}
-use Rattle.image.specs.Images.{Images, AllClean}
+use Rattle.image.specs.Images.{AllClean}
 use Rattle.image.proofs.Keeping.{clean-programPage, clean-cutProgramPage, clean-eraseAll, clean-cutEraseAll, clean-storePage, clean-cutStorePage}
-use Rattle.controls.specs.declared.Controls.{Controls}
 use Rattle.controls.specs.Play.{movedOf}
-use Rattle.flash.specs.declared.Flash.{Flash}
-use Rattle.eeprom.specs.declared.Eeprom.{Eeprom}
-use Rattle.eeprom.specs.declared.Sent.{Sent}
-use Rattle.times.specs.declared.Pages.{Pages}
-use Rattle.times.specs.declared.Pages.the-variants as pages
-use Rattle.times.specs.Times.{onPages}
-use Rattle.machine.specs.declared.effects.Stroke.{Stroke}
-use Rattle.machine.specs.declared.effects.Stroke.the-variants.{Nothing, Whole, Cut}
-use Rattle.machine.specs.Effects.{strokeFor, flashTouched, eepromTouched, programBy, eraseBy, sentIn, storeBy, flashAfter, eepromAfter, imagesAfter}
 use Rattle.machine.specs.Replies.{delivered}
+use Rattle.machine.proofs.EachCycle.{EachCycle, images-keep}
 use Rattle.machine.specs.Machine.{Machine, machineAtStart, imageFor, onMachine, playOn, saysOn}
 use Rattle.record.specs.Lengths.{repliesLength}
 use Rattle.buffers.specs.Buffers.{Buffers, fit}
@@ -47,44 +38,20 @@ use Rattle.demands.specs.Lines.{recordsOf, leftBy}
 use Rattle.demands.proofs.Shown.{left-shown, call-left}
 use Rattle.demands.proofs.Ways.{Way, unfit, long, bad, played, way}
 
--- ---- a cycle keeps it, on the pages that it touches
-on-pages : (one : ℕ → Image → Image) (all : Image → Image) (p : Pages) (i : Image) → Clean i → ((n : ℕ) → Clean (one n i)) → Clean (all i) → Clean (onPages one all p i)
-on-pages one all pages.None i h k g = h
-on-pages one all (pages.One n) i h k g = k n
-on-pages one all pages.All i h k g = g
-
-module _ (i : Image) (h : Clean i) where
-  program-by : (s : Stroke) (bytes : List ℕ) (n : ℕ) → Clean (programBy s bytes n i)
-  program-by Nothing bytes n = h
-  program-by Whole bytes n = clean-programPage i h n bytes
-  program-by Cut bytes n = clean-cutProgramPage i h n bytes
-
-  erase-by : (s : Stroke) → Clean (eraseBy s i)
-  erase-by Nothing = h
-  erase-by Whole = clean-eraseAll i h
-  erase-by Cut = clean-cutEraseAll i h
-
-  store-by : (s : Stroke) (sent : Sent) (bytes : List ℕ) (n : ℕ) → Clean (storeBy s sent bytes n i)
-  store-by Nothing sent bytes n = h
-  store-by Whole sent bytes n = clean-storePage i h n (sent .first) (sent .count) bytes
-  store-by Cut sent bytes n = clean-cutStorePage i h n
-
-  flash-after : (s : Stroke) (watched : ℕ) (x : Flash) → Clean (flashAfter s watched x i)
-  unfolding flashAfter
-  flash-after s watched x = on-pages _ _ (flashTouched s watched x) i h (program-by s (x .page)) (erase-by s)
-
-  eeprom-after : (s : Stroke) (x : Eeprom) → Clean (eepromAfter s x i)
-  unfolding eepromAfter
-  eeprom-after s x = on-pages _ _ (eepromTouched s x) i h (store-by s (sentIn (x .cycle)) (x .page)) h
-
--- ---- a record keeps it, and so do all records
-images-clean : (b : Board) (c : Controls) (v : Event) (k : Skeleton) (x : Images) → AllClean x → AllClean (imagesAfter b c v k x)
-images-clean b c v k x h Chip.Flash = flash-after (x .flash) (h Chip.Flash) (strokeFor Chip.Flash (c .lines) v k) (b .sector) (c .flash)
-images-clean b c v k x h Chip.Eeprom = eeprom-after (x .eeprom) (h Chip.Eeprom) (strokeFor Chip.Eeprom (c .lines) v k) (c .eeprom)
+-- ---- a cycle keeps it, a record, and so do all records
+clean-cycles : EachCycle Clean
+clean-cycles = record {
+  program = λ n bytes i h. clean-programPage i h n bytes;
+  cut-program = λ n bytes i h. clean-cutProgramPage i h n bytes;
+  erase = λ i h. clean-eraseAll i h;
+  cut-erase = λ i h. clean-cutEraseAll i h;
+  store = λ n first count bytes i h. clean-storePage i h n first count bytes;
+  cut-store = λ n i h. clean-cutStorePage i h n;
+}
 
 pub play-clean : (b : Board) (m : Machine) (r : Record) → AllClean (m .images) → AllClean (playOn b m r .images)
 unfolding playOn
-play-clean b m r h = images-clean b (m .controls) (r .event) (movedOf b (m .controls) r .reply) (m .images) h
+play-clean b m r h = images-keep (λ chip. Clean) (λ chip. clean-cycles) b (m .controls) (r .event) (movedOf b (m .controls) r .reply) (m .images) h
 
 pub after-clean : (b : Board) (o : List Record) (m : Machine) → AllClean (m .images) → AllClean (after (onMachine b) o m .images)
 unfolding after

@@ -28,8 +28,8 @@ use Rattle.times.specs.Times.{reaches, onPages, Time, written, Times}
 use Rattle.machine.specs.declared.effects.Stroke.{Stroke}
 use Rattle.machine.specs.declared.effects.Stroke.the-variants.{Nothing, Whole, Cut}
 use Rattle.machine.specs.Effects.{strokeFor, flashTouched, eepromTouched, programBy, eraseBy, sentIn, storeBy, flashAfter, eepromAfter}
-use Rattle.machine.specs.Machine.{Machine, playOn, onMachine}
-use Rattle.demands.specs.Times.{writesPage, NoneWrites, WrittenLast}
+use Rattle.machine.specs.Machine.{Machine, writesPage, playOn, onMachine}
+use Rattle.demands.specs.Times.{NoneWrites, WrittenLast}
 
 -- the time of a chip's page
 abbrev pub timeOf : Chip → ℕ → Times → Time
@@ -57,12 +57,12 @@ module _ (i : Image) (k : ℕ) where
 
 module _ (b : Board) where
   -- ---- one record
-  time-play : (chip : Chip) (n : ℕ) (m : Machine) (r : Record) → timeOf chip n (playOn b m r .times) ≡ pick (writesPage b m r chip n) (written (r .stamp)) (timeOf chip n (m .times))
+  time-play : (chip : Chip) (n : ℕ) (m : Machine) (r : Record) → timeOf chip n (playOn b m r .times) ≡ pick (writesPage b (m .controls) r chip n) (written (r .stamp)) (timeOf chip n (m .times))
   unfolding playOn
   time-play Chip.Flash n m r = refl
   time-play Chip.Eeprom n m r = refl
 
-  place-play : (chip : Chip) (n k : ℕ) → k / pageSize chip ≡ n → (m : Machine) (r : Record) → writesPage b m r chip n ≡ false → cellAt (imageAt chip (playOn b m r .images)) k ≡ cellAt (imageAt chip (m .images)) k
+  place-play : (chip : Chip) (n k : ℕ) → k / pageSize chip ≡ n → (m : Machine) (r : Record) → writesPage b (m .controls) r chip n ≡ false → cellAt (imageAt chip (playOn b m r .images)) k ≡ cellAt (imageAt chip (m .images)) k
   unfolding playOn flashAfter eepromAfter
   place-play Chip.Flash n k here m r h =
       let s = strokeFor Chip.Flash (m .controls .lines) (r .event) (movedOf b (m .controls) r .reply) in
@@ -100,7 +100,7 @@ module _ (b : Board) where
     -- the page was written, or it was not
     written-first : (r : Record) (o : List Record) (m : Machine) → NoneWrites b (playOn b m r) o chip n → ((t : ℕ) × WrittenLast b m (r ∷ o) chip n t) ⊎ NoneWrites b m (r ∷ o) chip n
     unfolding after NoneWrites WrittenLast
-    written-first r o m none = split (writesPage b m r chip n) (λ w. inl (r .stamp, ([], r, o, refl, w, refl, none))) (λ w. inr (w, none))
+    written-first r o m none = split (writesPage b (m .controls) r chip n) (λ w. inl (r .stamp, ([], r, o, refl, w, refl, none))) (λ w. inr (w, none))
 
     written-later : (r : Record) (o : List Record) (m : Machine) (t : ℕ) → WrittenLast b (playOn b m r) o chip n t → WrittenLast b m (r ∷ o) chip n t
     unfolding after WrittenLast

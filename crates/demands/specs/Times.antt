@@ -1,6 +1,6 @@
 -- Believed: Demands 21 and 22 (document 02, request 1/12), of a text that is taken: what the table tells of each page, and that a page which it tells as never written holds what was lent.
 use mathlib.Core.Path.{_≡_}
-use mathlib.Core.Bool.{Bool, true, false}
+use mathlib.Core.Bool.{true, false}
 use mathlib.Core.Logic.{_⊎_}
 use mathlib.Core.List.{List, [], _∷_, _++_}
 use Prim.Native.Nat.{ℕ, _+_, _*_, _/_, _≤_, _<_}
@@ -11,35 +11,27 @@ use Rattle.record.specs.declared.Chip.{Chip}
 use Rattle.record.specs.declared.Record.{Record}
 use Rattle.record.specs.Word.{word}
 use Rattle.field.specs.Decimal.{largest}
-use Rattle.controls.specs.Play.{movedOf}
 use Rattle.image.specs.Image.{cellAt}
-use Rattle.image.specs.Images.{perChip, imageAt, pageSize}
-use Rattle.times.specs.Times.{reaches, pagesOf, firstEntry, entryLength, timesLength}
-use Rattle.machine.specs.Effects.{touchedBy}
-use Rattle.machine.specs.Machine.{Machine, machineAtStart, playOn, onMachine}
+use Rattle.image.specs.Images.{imageAt, pageSize}
+use Rattle.times.specs.Times.{pagesOf, firstEntry, entryLength, timesLength}
+use Rattle.machine.specs.Machine.{Machine, machineAtStart, writesPage, playOn, onMachine}
 use Rattle.buffers.specs.Buffers.{Buffers}
 use Rattle.call.specs.Replay.{Ended, Replays}
 use Rattle.demands.specs.Grounds.{Taken}
 use Rattle.demands.specs.Stops.{StopsAt}
 
 -- ---- the last record that wrote a page
--- does the record r, met by the machine m, end or cut a cycle on page n of the chip?
-abbrev pub writesPage : Board → Machine → Record → Chip → ℕ → Bool
-writesPage b m r chip n =
-    let x = touchedBy b (m .controls) (r .event) (movedOf b (m .controls) r .reply) in
-    reaches (perChip (x .flash) (x .eeprom) chip) n
-
 -- none of the records, played one after the other from m, does
 unfoldable pub NoneWrites : Board → Machine → List Record → Chip → ℕ → Type 0
 NoneWrites b m [] chip n = Unit {0}
-NoneWrites b m (r ∷ o) chip n = (writesPage b m r chip n ≡ false) × NoneWrites b (playOn b m r) o chip n
+NoneWrites b m (r ∷ o) chip n = (writesPage b (m .controls) r chip n ≡ false) × NoneWrites b (playOn b m r) o chip n
 
 -- one does, at the stamp t, and none behind it
 unfoldable pub WrittenLast : Board → Machine → List Record → Chip → ℕ → ℕ → Type 0
 WrittenLast b m o chip n t =
     (earlier : List Record) × (r : Record) × (later : List Record)
     × (o ≡ earlier ++ (r ∷ later))
-    × (writesPage b (after (onMachine b) earlier m) r chip n ≡ true)
+    × (writesPage b (after (onMachine b) earlier m .controls) r chip n ≡ true)
     × (r .stamp ≡ t)
     × NoneWrites b (playOn b (after (onMachine b) earlier m) r) later chip n
 

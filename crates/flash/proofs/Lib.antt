@@ -4,3 +4,4 @@ pub mod Worked
 pub mod Written
 pub mod Laws
 pub mod Lost
+pub mod Within

@@ -2,8 +2,9 @@
 use mathlib.Core.Path.{_≡_, refl, ap, _∙_}
 use mathlib.Core.Bool.{Bool, true, false}
 use mathlib.Core.List.{List, [], _∷_, _++_}
-use Prim.Native.Nat.{ℕ, _≤_}
+use Prim.Native.Nat.{ℕ, zero, suc, _≤_}
 use native.Mathlib.Omega.{arith}
+use lib.ListN.{getD}
 use Rattle.law.specs.Words.{All, Rising, filter, keep}
 
 -- the lists that f gives, one after the other
@@ -36,6 +37,13 @@ module _ {A : Type 0} where
   unfolding All
   all-behind P [] k h = h
   all-behind P (a ∷ l) k h = all-behind P l k (h .1)
+
+  -- of the element at a place, and of what stands for none
+  pub all-at : (P : A → Type 0) (l : List A) (n : ℕ) (d : A) → P d → All P l → P (getD l n d)
+  unfolding All
+  all-at P [] n d p h = p
+  all-at P (a ∷ l) zero d p h = h .0
+  all-at P (a ∷ l) (suc n) d p h = all-at P l n d p (h .1)
 
   pub keep-append : (b : Bool) (a : A) (l k : List A) → keep b a (l ++ k) ≡ keep b a l ++ k
   unfolding keep

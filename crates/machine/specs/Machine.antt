@@ -1,6 +1,9 @@
 -- Believed: The machine as demand 3 speaks of it: what one record does to controls, images and times, and its reply.
+use mathlib.Core.Bool.{Bool}
+use Prim.Native.Nat.{ℕ}
 use Rattle.meaning.specs.Meaning.{Channel, F, E, L, Rules}
 use Rattle.record.specs.declared.Board.{Board}
+use Rattle.record.specs.declared.Chip.{Chip}
 use Rattle.record.specs.declared.Record.{Record}
 use Rattle.record.specs.declared.Event.{Event}
 use Rattle.record.specs.declared.Event.the-variants as event
@@ -9,8 +12,8 @@ use Rattle.record.specs.declared.Skeleton.{Skeleton}
 use Rattle.controls.specs.declared.Controls.{Controls}
 use Rattle.controls.specs.Play.{startOf, movedOf, lostOf}
 use Rattle.image.specs.Image.{Image}
-use Rattle.image.specs.Images.{Images}
-use Rattle.times.specs.Times.{Times, neverWritten, timesAfter}
+use Rattle.image.specs.Images.{Images, perChip}
+use Rattle.times.specs.Times.{reaches, Times, neverWritten, timesAfter}
 use Rattle.machine.specs.Effects.{imagesAfter, touchedBy}
 use Rattle.machine.specs.Replies.{delivered}
 
@@ -37,6 +40,12 @@ abbrev pub imageFor : Event → Images → Image
 imageFor (event.Flash e) x = x .flash
 imageFor (event.Eeprom e) x = x .eeprom
 imageFor (event.Line e) x = x .flash
+
+-- does the record r, met by the controls c, end or cut a cycle on page n of the chip?
+abbrev pub writesPage : Board → Controls → Record → Chip → ℕ → Bool
+writesPage b c r chip n =
+    let x = touchedBy b c (r .event) (movedOf b c r .reply) in
+    reaches (perChip (x .flash) (x .eeprom) chip) n
 
 unfoldable pub playOn : Board → Machine → Record → Machine
 playOn b m r =

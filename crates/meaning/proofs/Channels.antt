@@ -1,11 +1,11 @@
 -- The channels: each is in their list, at its number.
 use mathlib.Core.Path.{_≡_, refl, sym, ap, subst, _∙_}
 use mathlib.Core.Bool.{true, false}
-use mathlib.Core.List.{List, [], _∷_}
-use Prim.Native.Nat.{ℕ, zero, suc}
+use Prim.Native.Nat.{ℕ}
 use lib.ListN.{getD}
 use borrow.Author.Tests.{eqb-true, eq-eqb}
 use Rattle.law.specs.Choice.{true-not-false, split}
+use Rattle.law.specs.Lists.{all-at}
 use Rattle.law.specs.Words.{All}
 use Rattle.meaning.specs.Meaning.{Channel, F, E, L, number, same, Outcome}
 use Rattle.meaning.specs.Channels.{channels}
@@ -25,12 +25,6 @@ pub same-not : (c d : Channel) → same c d ≡ false → same d c ≡ false
 same-not c d e = split (same d c) (λ f. absurd (true-not-false (sym (same-self c) ∙ ap (same c) (same-is d c f) ∙ e))) (λ f. f)
 
 -- what holds of each in the list holds of every channel
-all-at : {A : Type 0} (P : A → Type 0) (l : List A) (n : ℕ) (d : A) → P d → All P l → P (getD l n d)
-unfolding All
-all-at P [] n d p h = p
-all-at P (a ∷ l) zero d p h = h .0
-all-at P (a ∷ l) (suc n) d p h = all-at P l n d p (h .1)
-
 pub every-channel : (P : Channel → Type 0) → All P channels → (c : Channel) → P c
 unfolding All
 every-channel P h c = subst P (at-number c) (all-at P channels (number c) F (h .0) h)

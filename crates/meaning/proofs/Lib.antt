@@ -15,3 +15,4 @@ pub mod AllOrders
 pub mod Witness
 pub mod SomeAnswer
 pub mod TwoMachines
+pub mod Alongside

@@ -59,14 +59,14 @@ module _ {A S R : Type 0} (m : Rules A S R) (rs : List A) (back : NeverBack m rs
 
 module _ {A S R T K : Type 0} (m : Rules A S R) (play : T → A → T) (says : T → A → K) (gone : T → Bool) where
   -- the second machine has the first one's channels and stamps
-  abbrev n : Rules A T K
-  n = record { channel = m .channel; stamp = m .stamp; play = play; says = says; lost = gone }
+  abbrev pub other : Rules A T K
+  other = record { channel = m .channel; stamp = m .stamp; play = play; says = says; lost = gone }
 
-  pub allowed : {rs o : List A} → Allowed m rs o ↔ Allowed n rs o
+  pub allowed : {rs o : List A} → Allowed m rs o ↔ Allowed other rs o
   allowed = ((λ a. record { keeps = a .keeps; onward = a .onward }), λ a. record { keeps = a .keeps; onward = a .onward })
 
   -- orders that end alike pair by pair
-  pub same-alike : (p : List A) (s : S) (w : T) → ((o q : List A) → Allowed m p o → Allowed m p q → (outcome m o s ≡ outcome m q s) ↔ (outcome n o w ≡ outcome n q w)) → Alike m p s ↔ Alike n p w
+  pub same-alike : (p : List A) (s : S) (w : T) → ((o q : List A) → Allowed m p o → Allowed m p q → (outcome m o s ≡ outcome m q s) ↔ (outcome other o w ≡ outcome other q w)) → Alike m p s ↔ Alike other p w
   unfolding Alike
   same-alike p s w h = (
     (λ k o q a b. h o q (allowed .1 a) (allowed .1 b) .0 (k o q (allowed .1 a) (allowed .1 b))),
@@ -74,19 +74,19 @@ module _ {A S R T K : Type 0} (m : Rules A S R) (play : T → A → T) (says : T
   )
 
   module _ (see : S → T) (plays : (s : S) (a : A) → see (m .play s a) ≡ play (see s) a) where
-    pub see-after : (o : List A) (s : S) → see (after m o s) ≡ after n o (see s)
+    pub see-after : (o : List A) (s : S) → see (after m o s) ≡ after other o (see s)
     unfolding after
     see-after [] s = refl
-    see-after (a ∷ o) s = see-after o (m .play s a) ∙ ap (after n o) (plays s a)
+    see-after (a ∷ o) s = see-after o (m .play s a) ∙ ap (after other o) (plays s a)
 
     module _ (loses : (s : S) → m .lost s ≡ gone (see s)) (Good : S → Type 0) (good : (s : S) (a : A) → Good s → Good (m .play s a))
-        (pairs : (t : ℕ) (p : List A) → All (λ (a : A). m .stamp a ≡ t) p → (s : S) → Good s → (o q : List A) → Allowed m p o → Allowed m p q → (outcome m o s ≡ outcome m q s) ↔ (outcome n o (see s) ≡ outcome n q (see s))) where
+        (pairs : (t : ℕ) (p : List A) → All (λ (a : A). m .stamp a ≡ t) p → (s : S) → Good s → (o q : List A) → Allowed m p o → Allowed m p q → (outcome m o s ≡ outcome m q s) ↔ (outcome other o (see s) ≡ outcome other q (see s))) where
       good-after : (o : List A) (s : S) → Good s → Good (after m o s)
       unfolding after
       good-after [] s g = g
       good-after (a ∷ o) s g = good-after o (m .play s a) (good s a g)
 
-      one-stamp : (t : ℕ) (p : List A) → All (λ (a : A). m .stamp a ≡ t) p → (s : S) → Good s → Alike m p s ↔ Alike n p (see s)
+      one-stamp : (t : ℕ) (p : List A) → All (λ (a : A). m .stamp a ≡ t) p → (s : S) → Good s → Alike m p s ↔ Alike other p (see s)
       one-stamp t p hp s g = same-alike p s (see s) (pairs t p hp s g)
 
       module _ (rs : List A) (back : NeverBack m rs) (s : S) (g : Good s) where
@@ -95,16 +95,16 @@ module _ {A S R T K : Type 0} (m : Rules A S R) (play : T → A → T) (says : T
         Before t = (u : ℕ) → u < t → Passes m rs s u
 
         abbrev SeenBefore : ℕ → Type 0
-        SeenBefore t = (u : ℕ) → u < t → Passes n rs (see s) u
+        SeenBefore t = (u : ℕ) → u < t → Passes other rs (see s) u
 
-        alike-same : (u : ℕ) → Alike m (upto m u rs) s → Alike n (upto m u rs) (see s) → Alike m (upto m (suc u) rs) s ↔ Alike n (upto m (suc u) rs) (see s)
+        alike-same : (u : ℕ) → Alike m (upto m u rs) s → Alike other (upto m u rs) (see s) → Alike m (upto m (suc u) rs) s ↔ Alike other (upto m (suc u) rs) (see s)
         alike-same u h k =
             Iff·trans (alike-next m rs back u s h)
             (Iff·trans (one-stamp (suc u) (next m rs back u) (next-stamp m rs back u) (after m (upto m u rs) s) (good-after _ s g))
-            (subst (λ (w : T). Alike n (next m rs back u) w ↔ Alike n (upto m (suc u) rs) (see s)) (sym (see-after (upto m u rs) s)) (Iff·symm (alike-next n rs back u (see s) k))))
+            (subst (λ (w : T). Alike other (next m rs back u) w ↔ Alike other (upto m (suc u) rs) (see s)) (sym (see-after (upto m u rs) s)) (Iff·symm (alike-next other rs back u (see s) k))))
 
         -- a stamp that passes says only that its orders are not unlike, which is enough where `Differ` is compared
-        differs : (t : ℕ) → Before t → SeenBefore t → Differ m rs s t ↔ Differ n rs (see s) t
+        differs : (t : ℕ) → Before t → SeenBefore t → Differ m rs s t ↔ Differ other rs (see s) t
         unfolding Differ Passes Holds
         differs zero h k = Iff·not (one-stamp 0 (upto m 0 rs) (all-pass _ _ (λ a e. let l = leb-true (m .stamp a) 0 e in omega arith) rs) s g)
         differs (suc u) h k = (
@@ -112,25 +112,25 @@ module _ {A S R T K : Type 0} (m : Rules A S R) (play : T → A → T) (says : T
           λ d e. h u (omega arith) differ (λ a. k u (omega arith) differ (λ c. d (alike-same u a c .0 e))),
         )
 
-        crowds : (t : ℕ) → Crowded m rs t ↔ Crowded n rs t
+        crowds : (t : ℕ) → Crowded m rs t ↔ Crowded other rs t
         unfolding Crowded
         crowds t = Iff·rfl
 
-        lost-as : (o : List A) → m .lost (after m o s) ≡ gone (after n o (see s))
+        lost-as : (o : List A) → m .lost (after m o s) ≡ gone (after other o (see s))
         lost-as o = loses (after m o s) ∙ ap gone (see-after o s)
 
-        loss : (t : ℕ) → Lost m rs s t ↔ Lost n rs (see s) t
+        loss : (t : ℕ) → Lost m rs s t ↔ Lost other rs (see s) t
         unfolding Lost
         loss t = ((λ h. (h .0, allowed .0 (h .1), sym (lost-as (h .0)) ∙ h .2)), λ h. (h .0, allowed .1 (h .1), lost-as (h .0) ∙ h .2))
 
         module _ (t : ℕ) (h : Before t) (k : SeenBefore t) where
-          holds : (r : Reason) → Holds m rs s r t ↔ Holds n rs (see s) r t
+          holds : (r : Reason) → Holds m rs s r t ↔ Holds other rs (see s) r t
           unfolding Holds
           holds crowded = crowds t
           holds differ = differs t h k
           holds lost = loss t
 
-          first : (r : Reason) → FirstReason m rs s r t ↔ FirstReason n rs (see s) r t
+          first : (r : Reason) → FirstReason m rs s r t ↔ FirstReason other rs (see s) r t
           unfolding FirstReason
           first crowded = crowds t
           first differ = Iff·and (Iff·not (crowds t)) (differs t h k)
@@ -139,7 +139,7 @@ module _ {A S R T K : Type 0} (m : Rules A S R) (play : T → A → T) (says : T
               let d = Iff·not (differs t h k) in
               ((λ y. (c .0 (y .0), d .0 (y .1), loss t .0 (y .2))), λ y. (c .1 (y .0), d .1 (y .1), loss t .1 (y .2)))
 
-          passes : Passes m rs s t ↔ Passes n rs (see s) t
+          passes : Passes m rs s t ↔ Passes other rs (see s) t
           unfolding Passes
           passes = ((λ f r y. f r (holds r .1 y)), λ f r y. f r (holds r .0 y))
 
@@ -151,13 +151,13 @@ module _ {A S R T K : Type 0} (m : Rules A S R) (play : T → A → T) (says : T
           λ h. let k = same-before t .1 (less t h) in one-more t k (passes t k (less t h) .1 (h t (omega arith))),
         )
 
-        pub same-settled : ((t : ℕ) → Passes m rs s t) ↔ ((t : ℕ) → Passes n rs (see s) t)
+        pub same-settled : ((t : ℕ) → Passes m rs s t) ↔ ((t : ℕ) → Passes other rs (see s) t)
         same-settled = (
           (λ h t. same-before (suc t) .0 (λ u l. h u) t (omega arith)),
           λ h t. same-before (suc t) .1 (λ u l. h u) t (omega arith),
         )
 
-        pub same-earliest : (r : Reason) (t : ℕ) → Earliest m rs s r t ↔ Earliest n rs (see s) r t
+        pub same-earliest : (r : Reason) (t : ℕ) → Earliest m rs s r t ↔ Earliest other rs (see s) r t
         same-earliest r t = (
           (λ h. let k = same-before t .0 (h .none-before) in record { here = first t (h .none-before) k r .0 (h .here); none-before = k }),
           λ h. let k = same-before t .1 (h .none-before) in record { here = first t k (h .none-before) r .1 (h .here); none-before = k },
