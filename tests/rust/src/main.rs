@@ -1,7 +1,8 @@
 //! The independent check of the replay and of the plan: a plain model of document 01 with requests 1/12, 2/12, 3/12 and 6/12,
-//! generated traces and contents, and a comparison over pipes.
+//! the chips' histories of request 8/12, generated traces and contents, and a comparison over pipes.
 //!
 //!   hazelcrook-check check DRIVER_COMMAND [--cases N] [--seed S] [--long]
+//!   hazelcrook-check histories DRIVER_COMMAND [--cases N] [--seed S] [--long]
 //!   hazelcrook-check plans DRIVER_COMMAND [--cases N] [--seed S] [--long]
 //!   hazelcrook-check listings replay|pages|plan COMMAND [--cases N] [--seed S]
 //!   hazelcrook-check folders FOLDER [--cases N] [--seed S]
@@ -17,6 +18,7 @@ mod driver;
 mod fixed;
 mod folders;
 mod generate;
+mod histories;
 mod listings;
 mod model;
 mod plan_listings;
@@ -34,6 +36,8 @@ use std::process::exit;
 
 const CASES: usize = 12_000;
 const LONG_CASES: usize = 250_000;
+const HISTORY_CASES: usize = 1_500;
+const LONG_HISTORY_CASES: usize = 20_000;
 const PLAN_CASES: usize = 2_000;
 const LONG_PLAN_CASES: usize = 50_000;
 const LISTING_CASES: usize = 600;
@@ -89,6 +93,10 @@ fn run(mode: &str, arguments: Arguments) -> io::Result<bool> {
     match (mode, arguments.plain.as_slice()) {
         ("check", [command]) => {
             check::check(&check::Plan { command: command.clone(), cases: arguments.cases.unwrap_or(usual), seed })
+        }
+        ("histories", [command]) => {
+            let usual = if arguments.long { LONG_HISTORY_CASES } else { HISTORY_CASES };
+            histories::check(&histories::Plan { command: command.clone(), cases: arguments.cases.unwrap_or(usual), seed })
         }
         ("plans", [command]) => {
             let usual = if arguments.long { LONG_PLAN_CASES } else { PLAN_CASES };

@@ -4,6 +4,7 @@ mod bad_fields;
 mod bench_sheet;
 mod buffers;
 mod cut_pages;
+mod doubts;
 mod eeprom_cases;
 mod flash_cases;
 mod forms;
@@ -32,6 +33,7 @@ pub fn all() -> Vec<Fixed> {
     cases.extend(eeprom_cases::cases());
     cases.extend(cut_pages::cases());
     cases.extend(page_times::cases());
+    cases.extend(doubts::cases());
     cases.extend(ties::cases());
     cases.extend(buffers::cases());
     cases

@@ -14,6 +14,7 @@ pub mod random;
 pub mod reorder;
 pub mod restamp;
 pub mod samples;
+pub mod small_doubts;
 pub mod spoilt;
 pub mod topics;
 pub mod write_cycles;

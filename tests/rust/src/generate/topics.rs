@@ -10,7 +10,7 @@ use crate::model::record::{EepromEvent, FlashEvent};
 const RDSR: u8 = 0x05;
 pub const WREN: u8 = 0x06;
 pub const WRSR: u8 = 0x01;
-const READ: u8 = 0x03;
+pub const READ: u8 = 0x03;
 pub const PROGRAM: u8 = 0x02;
 pub const SECTOR_ERASE: u8 = 0x52;
 pub const CHIP_ERASE: u8 = 0x62;

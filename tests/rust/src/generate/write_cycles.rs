@@ -11,7 +11,7 @@ use crate::model::call::Call;
 use crate::model::record::{Event, FlashEvent};
 use crate::model::times::{EEPROM_PAGES, FLASH_PAGES};
 
-const F_END: Event = Event::F(FlashEvent::End);
+pub const F_END: Event = Event::F(FlashEvent::End);
 
 /// How the cycles come to an end, stamp by stamp; only the last two may stop a replay, and `off` in a status write.
 const FINISHES: [(usize, &[&[Event]]); 12] = [

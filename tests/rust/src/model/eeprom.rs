@@ -1,5 +1,6 @@
 //! The EEPROM ("EEPROM rules", "Supply" with request 3/12; its pages' times are request 1/12's).
 
+use super::cells::{sent_from, Cells};
 use super::kept::{rolled, Kept};
 use super::lines::Lines;
 use super::record::{EepromEvent, LineEvent, Reply};
@@ -30,13 +31,13 @@ pub struct Cycle {
 }
 
 #[derive(Clone, Debug, PartialEq, Eq)]
-pub struct Eeprom {
+pub struct Eeprom<C = Kept> {
     pub wired: u8,
     pub frame: Frame,
     pub cycle: Option<Cycle>,
     /// None is a lost counter.
     pub counter: Option<u16>,
-    pub kept: Kept,
+    pub kept: C,
     pub times: Times,
 }
 
@@ -44,8 +45,8 @@ fn place_sent(sent: &[u8]) -> u16 {
     (u16::from(sent[0]) << 8 | u16::from(sent[1])) % PLACES
 }
 
-impl Eeprom {
-    pub fn at_start(wired: u8, kept: Kept) -> Eeprom {
+impl<C: Cells> Eeprom<C> {
+    pub fn at_start(wired: u8, kept: C) -> Eeprom<C> {
         Eeprom { wired, frame: Frame::Idle, cycle: None, counter: None, kept, times: vec![None; EEPROM_PAGES] }
     }
 
@@ -112,8 +113,7 @@ impl Eeprom {
         match self.counter {
             Some(counter) => {
                 self.counter = Some((counter + 1) % PLACES);
-                let place = usize::from(counter);
-                Reply::Byte { value: self.kept.value[place], mask: self.kept.mask[place] }
+                self.kept.read(usize::from(counter))
             }
             None => Reply::Silent,
         }
@@ -140,7 +140,7 @@ impl Eeprom {
     fn end(&mut self, stamp: u32) -> Reply {
         match self.cycle.take() {
             Some(cycle) => {
-                self.store(&cycle);
+                self.kept.store(&sent_from(usize::from(cycle.page * PAGE), &cycle.data));
                 self.times[usize::from(cycle.page)] = Some(stamp);
                 Reply::Ends
             }
@@ -150,29 +150,13 @@ impl Eeprom {
 
     fn lose_supply(&mut self, stamp: u32) {
         if let Some(cycle) = self.cycle.take() {
-            self.doubt_page(cycle.page);
+            let first = usize::from(cycle.page * PAGE);
+            self.kept.cut_page(first..first + usize::from(PAGE));
             self.times[usize::from(cycle.page)] = Some(stamp);
         }
         self.counter = None;
         if self.frame != Frame::Idle {
             self.frame = Frame::Void;
-        }
-    }
-
-    fn store(&mut self, cycle: &Cycle) {
-        let first = usize::from(cycle.page * PAGE);
-        for (offset, sent) in cycle.data.iter().enumerate() {
-            if let Some(sent) = *sent {
-                self.kept.set(first + offset, sent, 0x00);
-            }
-        }
-    }
-
-    /// A cut cycle: the whole page, bytes that were not sent too (request 3/12; "Supply" has the bytes sent alone).
-    fn doubt_page(&mut self, page: u16) {
-        let first = usize::from(page * PAGE);
-        for place in first..first + usize::from(PAGE) {
-            self.kept.set(place, 0x00, 0xff);
         }
     }
 }

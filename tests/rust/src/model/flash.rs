@@ -1,5 +1,6 @@
 //! The flash ("Flash rules", "Supply"; its pages' times are request 1/12's).
 
+use super::cells::{sent_from, Cells, Sent};
 use super::kept::{rolled, Kept, KEPT};
 use super::lines::Lines;
 use super::record::{FlashEvent, LineEvent, Reply};
@@ -48,12 +49,12 @@ pub enum Instruction {
 }
 
 #[derive(Clone, Debug, PartialEq, Eq)]
-pub struct Flash {
+pub struct Flash<C = Kept> {
     pub watched: u8,
     pub frame: Frame,
     pub cycle: Option<Cycle>,
     pub status: Status,
-    pub kept: Kept,
+    pub kept: C,
     /// Of the watched sector's pages.
     pub times: Times,
 }
@@ -123,8 +124,8 @@ fn sector_of(address: usize) -> u8 {
     (address / KEPT) as u8 + 1
 }
 
-impl Flash {
-    pub fn at_start(status: u8, watched: u8, kept: Kept) -> Flash {
+impl<C: Cells> Flash<C> {
+    pub fn at_start(status: u8, watched: u8, kept: C) -> Flash<C> {
         let times = vec![None; FLASH_PAGES];
         Flash { watched, frame: Frame::Idle, cycle: None, status: Status::of_byte(status, false), kept, times }
     }
@@ -212,8 +213,7 @@ impl Flash {
         if sector_of(address) != self.watched {
             return Reply::Silent;
         }
-        let place = address % KEPT;
-        Reply::Byte { value: self.kept.value[place], mask: self.kept.mask[place] }
+        self.kept.read(address % KEPT)
     }
 
     fn cut(&mut self) -> Reply {
@@ -295,10 +295,10 @@ impl Flash {
         };
         self.touch(&cycle, stamp);
         match cycle {
-            Cycle::Program { page, data } => self.change_page(page, &data, |value, mask, sent| (value & sent, mask & sent)),
+            Cycle::Program { page, data } => self.kept.program(&self.sent_to_watched(page, &data)),
             Cycle::SectorErase { .. } | Cycle::ChipErase => {
                 if self.erases_watched(&cycle) {
-                    self.kept.set_all(0xff, 0x00);
+                    self.kept.erase();
                 }
             }
             Cycle::WriteStatus { byte } => self.status = Status::of_byte(byte, false),
@@ -321,12 +321,10 @@ impl Flash {
 
     fn cut_cycle(&mut self, cycle: Cycle) {
         match cycle {
-            Cycle::Program { page, data } => {
-                self.change_page(page, &data, |value, mask, sent| (value & sent, mask | (value & !sent)))
-            }
+            Cycle::Program { page, data } => self.kept.cut_program(&self.sent_to_watched(page, &data)),
             Cycle::SectorErase { .. } | Cycle::ChipErase => {
                 if self.erases_watched(&cycle) {
-                    self.kept.set_all(0x00, 0xff);
+                    self.kept.cut_erase();
                 }
             }
             Cycle::WriteStatus { .. } => self.status = Status::Lost,
@@ -358,18 +356,13 @@ impl Flash {
         }
     }
 
-    fn change_page(&mut self, page: usize, data: &[Option<u8>], change: fn(u8, u8, u8) -> (u8, u8)) {
+    /// What a program sends to bytes that are kept: none outside the watched sector.
+    fn sent_to_watched(&self, page: usize, data: &[Option<u8>]) -> Vec<Sent> {
         let first = page * PAGE;
         if sector_of(first) != self.watched {
-            return;
+            return Vec::new();
         }
-        for (offset, sent) in data.iter().enumerate() {
-            if let Some(sent) = *sent {
-                let place = first % KEPT + offset;
-                let (value, mask) = change(self.kept.value[place], self.kept.mask[place], sent);
-                self.kept.set(place, value, mask);
-            }
-        }
+        sent_from(first % KEPT, data)
     }
 
     fn see_lock(&mut self) {

@@ -1,8 +1,10 @@
 //! The replay as plain Rust, written from document 01 and requests 1/12, 2/12 and 3/12 alone and without thrift: every order of
 //! a stamp starts from a fresh copy of a chip with its image and its pages' times, and everything is compared. The plan is of
-//! request 6/12 and document 01. Nothing here is shared with the proved code.
+//! request 6/12 and document 01. The chips' control serves the histories of request 8/12 too, on bytes of their own. Nothing
+//! here is shared with the proved code.
 
 pub mod call;
+pub mod cells;
 pub mod eeprom;
 pub mod fields;
 pub mod flash;

@@ -1,5 +1,6 @@
 //! A whole trace, stamp by stamp.
 
+use super::cells::Cells;
 use super::eeprom::Eeprom;
 use super::flash::Flash;
 use super::kept::Kept;
@@ -24,7 +25,7 @@ impl Ending {
     }
 }
 
-pub fn start(board: BoardLine, flash: Kept, eeprom: Kept) -> Board {
+pub fn start<C: Cells>(board: BoardLine, flash: C, eeprom: C) -> Board<C> {
     Board {
         lines: Lines::at_start(),
         flash: Flash::at_start(board.status, board.watched, flash),

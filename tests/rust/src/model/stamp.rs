@@ -1,7 +1,9 @@
 //! One stamp's records in every order ("Replies and stopping").
 
+use super::cells::Cells;
 use super::eeprom::Eeprom;
 use super::flash::{Flash, Status};
+use super::kept::Kept;
 use super::lines::Lines;
 use super::record::{EepromEvent, Event, FlashEvent, LineEvent, Record, Reply};
 
@@ -9,13 +11,13 @@ const MOST_BUS: usize = 8;
 const MOST_LINES: usize = 2;
 
 #[derive(Clone, Debug, PartialEq, Eq)]
-pub struct Board {
+pub struct Board<C = Kept> {
     pub lines: Lines,
-    pub flash: Flash,
-    pub eeprom: Eeprom,
+    pub flash: Flash<C>,
+    pub eeprom: Eeprom<C>,
 }
 
-impl Board {
+impl<C: Cells> Board<C> {
     pub fn play(&mut self, event: Event, stamp: u32) -> Reply {
         match event {
             Event::F(event) => self.flash.bus(event, self.lines, stamp),
