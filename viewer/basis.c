@@ -84,6 +84,12 @@ void put_basis(const struct desk *desk)
         put("<p>The board is not known: there is no line 1, it was not read, or it is refused.</p>\n");
     put("<p>Verdict, replies, contents, doubtful bits and times are those of Hazelcrook's replay, which is proved to keep the rules: "
         "those of document 01 with requests 1/12, 2/12 and 3/12 of document 02. The program that sets them out on this page, with "
-        "words of its own on the board, a refused line, and cycles that run or were cut, is tested, not proved.</p>\n"
-        "</section>\n");
+        "words of its own on the board, a refused line, and cycles that run or were cut, is tested, not proved.</p>\n");
+    if (shows(desk))
+        put("<p>What doubt means is proved too (request 8/12): a bit is in doubt exactly where two histories of the chips differ in "
+            "it, and a bit without doubt has the shown value in all of them. A history goes by the rules through the records shown, "
+            "in an order that the stamps allow, with any value for each bit in doubt before the trace, the old or the new for each "
+            "bit of a cut PROGRAM, and any for each bit of a cut erase or EEPROM page. A cycle alters nothing before its end or its "
+            "cut, and recorded replies rule no history out.</p>\n");
+    put("</section>\n");
 }
