@@ -38,7 +38,7 @@ use Rattle.demands.specs.Lines.{recordsOf, leftBy}
 use Rattle.demands.proofs.Shown.{left-shown, call-left}
 use Rattle.demands.proofs.Ways.{Way, unfit, long, bad, played, way}
 
--- ---- a cycle keeps it, a record, and so do all records
+-- ---- each cycle keeps it, so a record does, and so do all records
 clean-cycles : EachCycle Clean
 clean-cycles = record {
   program = λ n bytes i h. clean-programPage i h n bytes;

@@ -21,7 +21,7 @@ use Rattle.demands.specs.Grounds.{Taken}
 use Rattle.demands.specs.Stops.{StopsAt}
 
 -- ---- the last record that wrote a page
--- none of the records, played one after the other from m, does
+-- none of the records, played one after the other from m, writes page n of the chip (`writesPage`, machine)
 unfoldable pub NoneWrites : Board → Machine → List Record → Chip → ℕ → Type 0
 NoneWrites b m [] chip n = Unit {0}
 NoneWrites b m (r ∷ o) chip n = (writesPage b (m .controls) r chip n ≡ false) × NoneWrites b (playOn b m r) o chip n

@@ -71,6 +71,9 @@ const SCENES: [&str; 36] = [
 
 pub const SCENE_COUNT: usize = SCENES.len();
 
+/// To the sector before the watched one, which no board here locks where it leaves the watched one free.
+const BEFORE: usize = 3 * KEPT;
+
 const SEL: Event = Event::F(FlashEvent::Sel);
 const DES: Event = Event::F(FlashEvent::Des);
 const STA: Event = Event::E(EepromEvent::Sta);
@@ -157,7 +160,7 @@ fn board_for(random: &mut Random, locked: bool) -> BoardLine {
 fn play(author: &mut Author, focus: &Focus, word: &str) {
     match word {
         "p" => program(author, focus, 0),
-        "o" => program(author, focus, KEPT),
+        "o" => program(author, focus, BEFORE),
         "s" => addressed(author, SECTOR_ERASE, focus.flash[0].place, &[]),
         "c" => flash_cycle(author, &[CHIP_ERASE]),
         "w" => page_write(author, focus),

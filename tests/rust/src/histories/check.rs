@@ -1,4 +1,5 @@
-//! The comparison of what a driver leaves with histories: sampled ones of generated traces, every one of small traces.
+//! The comparison of what a driver leaves with histories: sampled ones of generated traces; of small traces every one that
+//! differs in the bits in focus.
 
 use super::history::Shown;
 use super::met::{self, Met};
@@ -118,7 +119,7 @@ impl Checker {
             for (call, answer) in batch.iter().zip(&answers) {
                 asked += 1;
                 match compared(call, answer, |shown| Some(sampled(shown, &mut random))) {
-                    Compared::Refused(_) | Compared::TooMany => (),
+                    Compared::Refused(_) => (),
                     other => self.judge(&mut group, call, other),
                 }
             }

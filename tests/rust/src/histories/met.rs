@@ -17,9 +17,10 @@ const WHOLE_OVER_DOUBT_1: &str = "a program's 1 over a doubtful bit";
 const CUT_OVER_DOUBT: &str = "a cut program's 0 over a doubtful bit";
 const CUT_OVER_SURE: &str = "a cut program's 0 over a sure 1";
 const CUT_OVER_BOTH: &str = "a cut program's 0 over both in one byte";
+const CUT_OUTSIDE: &str = "a cut program outside the watched sector";
 const ROLLED: &str = "data rolled inside the flash's page";
-const PROGRAM_CUT_AGAIN: &str = "a program cut where one was cut before";
-const ERASE_AFTER_CUT: &str = "an erase of what was cut";
+const PROGRAM_CUT_AGAIN: &str = "a program cut where a cut was before";
+const ERASE_AFTER_CUT: &str = "an erase of doubt after a cut";
 const CUT_ERASE: &str = "a cut erase";
 const CUT_ERASE_AGAIN: &str = "a cut erase of what was cut";
 const CHIP_ERASE: &str = "a chip erase of the watched sector";
@@ -34,12 +35,13 @@ const READ_BETWEEN_CUTS: &str = "a doubtful byte read between two cuts";
 const SEVERAL_ORDERS: &str = "several orders at a stamp";
 const STOPS: [&str; 3] = ["a stop 6 after a cut", "a stop 7 after a cut", "a stop 8 after a cut"];
 
-pub const ALL: [&str; 23] = [
+pub const ALL: [&str; 24] = [
     WHOLE_OVER_DOUBT_0,
     WHOLE_OVER_DOUBT_1,
     CUT_OVER_DOUBT,
     CUT_OVER_SURE,
     CUT_OVER_BOTH,
+    CUT_OUTSIDE,
     ROLLED,
     PROGRAM_CUT_AGAIN,
     ERASE_AFTER_CUT,
@@ -110,6 +112,10 @@ impl Cells for Noted {
     }
 
     fn cut_program(&mut self, sent: &[Sent]) {
+        self.note(CUT_OUTSIDE, sent.is_empty());
+        if sent.is_empty() {
+            return;
+        }
         self.note_rolled(sent);
         for &Sent { place, byte } in sent {
             let (doubtful, sure) = (self.kept.mask[place] & !byte, self.kept.value[place] & !byte);

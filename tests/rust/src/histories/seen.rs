@@ -51,7 +51,8 @@ fn told(value: u8, mask: u8, ones: u8, zeros: u8) -> String {
     format!("{} ({:02x}/{:02x} is shown)", found.unwrap_or_default(), value, mask)
 }
 
-/// The reply to each record: the kinds that occurred, as bits by their number, and a byte's bits.
+/// What occurred in the histories of one trace: the images' bits at the end, and of each record's reply the kinds, as bits
+/// by their number, and a byte's bits.
 #[derive(Clone, Default)]
 pub struct Seen {
     pub histories: usize,

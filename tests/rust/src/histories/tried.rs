@@ -36,7 +36,7 @@ pub fn sampled(shown: &Shown, random: &mut Random) -> Seen {
     seen
 }
 
-/// Every order with every start value and every choice; None where there are too many.
+/// Every order with every start value and choice of the bits in focus (`EachInTurn`); None where there are too many.
 pub fn every(shown: &Shown, focus: Focus) -> Option<Seen> {
     let mut seen = Seen::default();
     each(shown, focus, |history| seen.add(history)).then_some(seen)
