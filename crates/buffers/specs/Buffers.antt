@@ -1,4 +1,4 @@
--- Believed: The lent buffers: when they fit, and what the result holds (document 01, 'Replies and stopping'; document 02, requests 1/12, 2/12 and 6/12).
+-- Believed: The lent buffers: when they fit, and what the result holds (document 01, 'Replies and stopping'; document 02, requests 1/12, 2/12, 4/12 and 6/12).
 use Prim.Native.Nat.{ℕ}
 use mathlib.Core.Bool.{Bool, true, false}
 use mathlib.Core.List.{List, [], _∷_, _++_}
@@ -34,14 +34,17 @@ clear (v ∷ vs) (m ∷ ms) = pick (eqb (bitAnd v m) 0) (clear vs ms) false
 abbrev pub isClear : Image → Bool
 isClear i = clear (i .values) (i .masks)
 
--- none of the grounds of refusal 1 holds: every length is right, and in each image no bit is set in both
+-- of the images and the result none of the grounds of refusal 1 holds: every length is right, and in each image no bit is set in both
+unfoldable pub fitImages : Images → List ℕ → Bool
+fitImages x result =
+    pick (everyChip (λ chip. spans (keptBytes chip) (imageAt chip x)))
+    (pick (eqb (length result) resultLength) (everyChip (λ chip. isClear (imageAt chip x))) false) false
+
+-- and of all that a replay is lent
 unfoldable pub fit : Buffers → Bool
 fit x =
-    pick (everyChip (λ chip. spans (keptBytes chip) (imageAt chip (x .images))))
-    (pick (eqb (length (x .times)) timesLength)
-    (pick (eqb (length (x .replies)) repliesLength)
-    (pick (eqb (length (x .result)) resultLength)
-    (everyChip (λ chip. isClear (imageAt chip (x .images)))) false) false) false) false
+    pick (eqb (length (x .times)) timesLength)
+    (pick (eqb (length (x .replies)) repliesLength) (fitImages (x .images) (x .result)) false) false
 
 -- 'answer, line or stamp, count', and 'the last four the field or 0'
 unfoldable pub resultBytes : ℕ → ℕ → ℕ → ℕ → List ℕ

@@ -8,8 +8,8 @@ ghost use lib.Seq.{sets};
 ghost use Rattle.record.specs.Replies.{replyBytes};
 ghost use Rattle.record.specs.Word.{word};
 ghost use Rattle.image.specs.Image.{imageOf, spans};
-ghost use Rattle.image.specs.Images.{keptBytes};
-ghost use Rattle.buffers.specs.Buffers.{buffersOf, clear, fit, resultAfter, planResultAfter};
+ghost use Rattle.image.specs.Images.{imagesOf, keptBytes};
+ghost use Rattle.buffers.specs.Buffers.{buffersOf, clear, fitImages, fit, resultAfter, planResultAfter};
 ghost use Rattle.buffers.specs.Put.{repliesWith};
 use record::Chip;
 use record::Match;
@@ -27,16 +27,29 @@ pub fn fits_all(
 ) -> bool
     ensures { λ r. ⌜ r ≡ fit (buffersOf (now (flash .entry)) (now («flash_mask» .entry)) (now (eeprom .entry)) (now («eeprom_mask» .entry)) (now (times .entry)) (now (replies .entry)) (now (result .entry))) ⌝ }
 {
-    if !image_fits(Chip::Flash, flash, flash_mask) {
-        return false;
-    }
-    if !image_fits(Chip::Eeprom, eeprom, eeprom_mask) {
-        return false;
-    }
     if times.len() != times::TIMES {
         return false;
     }
     if replies.len() != record::REPLIES {
+        return false;
+    }
+    fits_images(flash, flash_mask, eeprom, eeprom_mask, result)
+}
+
+// The same where only images and a result are lent.
+pub fn fits_images(
+    flash: &[u8],
+    flash_mask: &[u8],
+    eeprom: &[u8],
+    eeprom_mask: &[u8],
+    result: &[u8],
+) -> bool
+    ensures { λ r. ⌜ r ≡ fitImages (imagesOf (now (flash .entry)) (now («flash_mask» .entry)) (now (eeprom .entry)) (now («eeprom_mask» .entry))) (now (result .entry)) ⌝ }
+{
+    if !image_fits(Chip::Flash, flash, flash_mask) {
+        return false;
+    }
+    if !image_fits(Chip::Eeprom, eeprom, eeprom_mask) {
         return false;
     }
     if result.len() != record::RESULT {
@@ -84,6 +97,14 @@ pub fn put_result(result: &mut [u8], answer: u32, number: usize, count: u32, fie
     put_word(result, 4, number);
     put_word(result, 8, count as usize);
     put_word(result, 12, field as usize);
+}
+
+// The same, for a call that ends with it: the answer is given back.
+pub fn put_answer(result: &mut [u8], answer: u32, number: usize, count: u32, field: u32) -> u32
+    ensures { λ r. ⌜ (r ≡ answer) × (now (result .exit) ≡ resultAfter answer number count field (now (result .entry))) ⌝ }
+{
+    put_result(result, answer, number, count, field);
+    answer
 }
 
 // A plan's result: the answer's number, and how many entries the list has.

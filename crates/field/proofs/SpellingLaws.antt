@@ -5,11 +5,13 @@ use native.Mathlib.Numerals.{add-one}
 use native.Mathlib.Nat.{div-add-mod', mod-eq-of-lt, pow-suc}
 use mathlib.Core.Path.{_≡_, refl, sym, ap, ap₂, subst, _∙_}
 use mathlib.Core.Logic.{⊎-elim}
+use mathlib.Core.Bool.{Bool}
 use mathlib.Core.List.{List, [], _∷_, _++_, append-nil}
-use lib.ListN.{length, take, getD, length-append, length-set}
+use lib.ListN.{length, take, drop, set, getD, length-append, length-set, take-append-drop}
 use lib.Seq.{take-suc, take-suc-set, take-all, append-snoc}
 use lib.Dec.{leb}
-use borrow.Author.Tests.{lt-leb}
+use borrow.Author.Tests.{lt-leb, le-leb}
+use Rattle.law.specs.Words.{pick}
 use Rattle.law.specs.Choice.{lt-or-le}
 use Rattle.field.specs.declared.spelling.Spelling.{Spelling}
 use Rattle.field.specs.Decimal.{decimal, largest}
@@ -39,6 +41,28 @@ put-more s {r} w k h e =
     ∙ sym (put-one (putAll s (take k w)) (getD w k 0))
     ∙ put-then s (take k w) (getD w k 0 ∷ [])
     ∙ ap (λ (l : List ℕ). putAll s l) (sym (take-suc w k 0 h) ∙ ap (λ (j : ℕ). take j w) (sym (add-one k)))
+
+-- the same where the byte is put in place
+pub put-in-place : (s : Spelling) {r : Spelling} (w : List ℕ) (k : ℕ) → r .len < room → k < length w → r ≡ putAll s (take k w) →
+    record { bytes = set (r .bytes) (r .len) (getD w k 0); len = r .len + 1 } ≡ putAll s (take (k + 1) w)
+put-in-place s {r} w k l h e =
+    ap (λ (t : Bool). pick t r (record { bytes = set (r .bytes) (r .len) (getD w k 0); len = r .len + 1 })) (sym (lt-leb room (r .len) l))
+    ∙ put-more s w k h e
+
+-- where there is no room, nothing more is put
+put-full : (s : Spelling) (w : List ℕ) → room ≤ s .len → putAll s w ≡ s
+unfolding putAll
+put-full s [] h = refl
+put-full s (b ∷ w) h =
+    ap (λ (t : Bool). putAll (pick t s (record { bytes = set (s .bytes) (s .len) b; len = s .len + 1 })) w) (le-leb room (s .len) h)
+    ∙ put-full s w h
+
+pub put-over : (s : Spelling) {r : Spelling} (w : List ℕ) (k : ℕ) → room ≤ r .len → r ≡ putAll s (take k w) → r ≡ putAll s w
+put-over s {r} w k h e =
+    sym (put-full r (drop k w) h)
+    ∙ ap (λ (q : Spelling). putAll q (drop k w)) e
+    ∙ put-then s (take k w) (drop k w)
+    ∙ ap (λ (l : List ℕ). putAll s l) (take-append-drop k w)
 
 -- ---- what is held, where there is room
 pub record Holds (s : Spelling) (w : List ℕ) : Type 0 where

@@ -35,13 +35,19 @@ fn put(s: Spelling, byte: u8) -> Spelling
     next
 }
 
+// Each byte is put in place: a call of put for each would copy the whole spelling.
 pub fn put_word(s: Spelling, word: &[u8]) -> Spelling
     ensures { λ r. ⌜ r ≡ putAll s (now (word .entry)) ⌝ }
 {
     let mut next = s;
     let mut k = 0;
     while k < word.len() {
-        next = put(next, word[k]);
+        let at = next.len;
+        if ROOM <= at {
+            return next;
+        }
+        next.bytes[at] = word[k];
+        next.len = at + 1;
         k += 1;
     }
     next

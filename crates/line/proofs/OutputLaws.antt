@@ -89,7 +89,8 @@ event-length (Event.Flash e) = omega (arith, flash-length e)
 event-length (Event.Eeprom e) = omega (arith, eeprom-length e)
 event-length (Event.Line e) = omega (arith, line-length e)
 
-parts : (r : Record) → length (spelled r) ≡ length (decimal (r .stamp)) + 1 + length (spelledEvent (r .event))
+-- a record's line: the stamp's digits, a tab, the event
+pub parts : (r : Record) → length (spelled r) ≡ length (decimal (r .stamp)) + 1 + length (spelledEvent (r .event))
 unfolding spelled
 parts r = omega (arith, length-append (decimal (r .stamp)) (tab ++ spelledEvent (r .event)))
 

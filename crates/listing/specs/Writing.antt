@@ -12,8 +12,8 @@ use Rattle.record.specs.declared.Record.{Record}
 use Rattle.record.specs.Lengths.{resultLength}
 use Rattle.field.specs.Room.{room}
 use Rattle.times.specs.Times.{pagesOf, firstEntry}
-use Rattle.listing.specs.Bytes.{wasPlayed, replyAt}
-use Rattle.listing.specs.Lines.{heading}
+use Rattle.listing.specs.Bytes.{wasPlayed, replyAt, answerIn, placeIn, countIn, fieldIn}
+use Rattle.listing.specs.Lines.{heading, refusedLine}
 use Rattle.listing.specs.Listing.{Listed, recordLines, listingRoom}
 use Rattle.listing.specs.Pages.{linesBelow, timeAt}
 
@@ -49,3 +49,10 @@ chipLines chip table = linesBelow chip (λ n. timeAt table (firstEntry chip + n)
 -- is the result of its length, and has an output of so many bytes room for any listing?
 unfoldable pub isReady : List ℕ → ℕ → Bool
 isReady result bytes = pick (eqb (length result) resultLength) (pick (ltb bytes listingRoom) false true) false
+
+-- of a result of its length: the line of the refusal that it tells, and its count; of any other nothing
+unfoldable pub refusalOf : List ℕ → List ℕ
+refusalOf result = pick (eqb (length result) resultLength) (refusedLine (answerIn result) (placeIn result) (fieldIn result)) []
+
+unfoldable pub countOf : List ℕ → ℕ
+countOf result = pick (eqb (length result) resultLength) (countIn result) 0

@@ -4,13 +4,15 @@ ghost use mathlib.Core.Bool.{true};
 ghost use Prim.Native.Nat.{_+_, _≤_};
 ghost use lib.ListN.{length};
 ghost use Rattle.field.specs.Room.{room};
+ghost use Rattle.field.specs.Spelling.{noBytes, putAll};
 ghost use Rattle.record.specs.Lengths.{resultLength};
 ghost use Rattle.listing.specs.Bytes.{answerIn, placeIn, countIn, fieldIn, isRefusal};
 ghost use Rattle.listing.specs.Lines.{lastLine, refusedLine};
-ghost use Rattle.listing.specs.Writing.{ListsLines, isReady};
+ghost use Rattle.listing.specs.Writing.{ListsLines, isReady, refusalOf, countOf};
 use crate::bytes;
 use crate::lines;
 use crate::output;
+use field::Spelling;
 
 // Is the result of its length, and has an output of so many bytes room for any listing?
 pub(crate) fn is_ready(result: &[u8], bytes: usize) -> bool
@@ -30,6 +32,29 @@ pub(crate) fn refuses(result: &[u8]) -> bool
     ensures { λ r. ⌜ r ≡ isRefusal (answerIn (now (result .entry))) ⌝ }
 {
     bytes::is_refusal(bytes::number_at(result, 0))
+}
+
+// The line of a refusal by its result, put together; no line of a result of another length.
+pub fn refusal_of(result: &[u8]) -> Spelling
+    ensures { λ r. ⌜ r ≡ putAll noBytes (refusalOf (now (result .entry))) ⌝ }
+{
+    if result.len() != record::RESULT {
+        return field::no_bytes();
+    }
+    let answer = bytes::number_at(result, 0);
+    let place = bytes::number_at(result, 4);
+    let bad = bytes::number_at(result, 12);
+    lines::refused_line(answer, place, bad)
+}
+
+// The count of a result; 0 of one of another length.
+pub fn count_of(result: &[u8]) -> u32
+    ensures { λ r. ⌜ r ≡ countOf (now (result .entry)) ⌝ }
+{
+    if result.len() != record::RESULT {
+        return 0;
+    }
+    bytes::number_at(result, 8)
 }
 
 // The line of a refusal, which stands alone; the place after it.

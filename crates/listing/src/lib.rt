@@ -15,6 +15,8 @@ mod lines;
 mod output;
 mod pages;
 
+pub use ends::count_of;
+pub use ends::refusal_of;
 use field::Cursor;
 use line::ReadBoard;
 use line::ReadRecord;

@@ -1,68 +1,25 @@
--- `buffers::fits_all`: each ground of refusal 1 by the test that finds it. Assumes nothing.
-use mathlib.Core.Path.{sym, _∙_}
-use borrow.Author.Tests.{not-true, not-false, eq-eqb, ne-eqb}
-use Rattle.law.specs.Choice.{via}
-use Rattle.image.specs.Image.{imageOf}
-use Rattle.record.specs.declared.Chip.{Chip}
-use Rattle.image.specs.Images.{keptBytes}
-use Rattle.image.proofs.Fitting.{spans-values, spans-masks}
+-- `buffers::fits_all`: the table, the replies, and then the images with the result. Assumes nothing.
+use mathlib.Core.Path.{_∙_}
+use borrow.Author.Tests.{eq-eqb, ne-eqb}
 use Rattle.buffers.specs.Buffers.{fit}
 use borrow.Author.Needs.{needs}
 use Rattle.buffers.proofs.fits_all.Statement.{statement}
 use Rattle.buffers.proofs.fits_all.Tie as tie
 
-image-fits-requires : tie.Need-image-fits-requires
-image-fits-requires c κs = search needs
-
 returns : tie.Need-returns
 unfolding fit
-returns c = rw (via (c .before .image-fits .ensures) (not-true _ (c .if1 .taken)))
-
-image-fits-requires-2 : tie.Need-image-fits-requires-2
-image-fits-requires-2 c κs = search needs
+returns c = rw (ne-eqb _ _ (c .if1 .taken))
 
 returns-2 : tie.Need-returns-2
 unfolding fit
-returns-2 c = rw (via (c .before .before .before .image-fits .ensures) (not-false _ (c .before .before .if1 .left)), via (c .before .image-fits2 .ensures) (not-true _ (c .if2 .taken)))
+returns-2 c = rw (eq-eqb _ _ (c .before .if1 .left), ne-eqb _ _ (c .if2 .taken))
+
+fits-images-requires : tie.Need-fits-images-requires
+fits-images-requires c κs = search needs
 
 returns-3 : tie.Need-returns-3
 unfolding fit
-returns-3 c = rw (via (c .before .before .before .before .image-fits .ensures) (not-false _ (c .before .before .before .if1 .left)), via (c .before .before .image-fits2 .ensures) (not-false _ (c .before .if2 .left)), ne-eqb _ _ (c .if3 .taken))
-
-returns-4 : tie.Need-returns-4
-unfolding fit
-returns-4 c = rw (via (c .before .before .before .before .before .image-fits .ensures) (not-false _ (c .before .before .before .before .if1 .left)), via (c .before .before .before .image-fits2 .ensures) (not-false _ (c .before .before .if2 .left)), eq-eqb _ _ (c .before .if3 .left), ne-eqb _ _ (c .if4 .taken))
-
-returns-5 : tie.Need-returns-5
-unfolding fit
-returns-5 c = rw (via (c .before .before .before .before .before .before .image-fits .ensures) (not-false _ (c .before .before .before .before .before .if1 .left)), via (c .before .before .before .before .image-fits2 .ensures) (not-false _ (c .before .before .before .if2 .left)), eq-eqb _ _ (c .before .before .if3 .left), eq-eqb _ _ (c .before .if4 .left), ne-eqb _ _ (c .if5 .taken))
-
-is-clear-requires : tie.Need-is-clear-requires
-is-clear-requires c κs = let a = c .before .before .before .before .before .before .before .before .before .before .before .before .before .before .args in let i = imageOf (a .flash .now) (a .flash-mask .now) in let t = via (c .before .before .before .before .before .before .image-fits .ensures) (not-false _ (c .before .before .before .before .before .if1 .left)) in spans-masks i (keptBytes Chip.Flash) t ∙ sym (spans-values i (keptBytes Chip.Flash) t)
-
-returns-6 : tie.Need-returns-6
-unfolding fit
-returns-6 c = rw (via (c .before .before .before .before .before .before .before .before .image-fits .ensures) (not-false _ (c .before .before .before .before .before .before .before .if1 .left)), via (c .before .before .before .before .before .before .image-fits2 .ensures) (not-false _ (c .before .before .before .before .before .if2 .left)), eq-eqb _ _ (c .before .before .before .before .if3 .left), eq-eqb _ _ (c .before .before .before .if4 .left), eq-eqb _ _ (c .before .before .if5 .left), via (c .before .is-clear .ensures) (not-true _ (c .if6 .taken)))
-
-is-clear-requires-2 : tie.Need-is-clear-requires-2
-is-clear-requires-2 c κs = let a = c .before .before .before .before .before .before .before .before .before .before .before .before .before .before .before .before .args in let i = imageOf (a .eeprom .now) (a .eeprom-mask .now) in let t = via (c .before .before .before .before .before .before .image-fits2 .ensures) (not-false _ (c .before .before .before .before .before .if2 .left)) in spans-masks i (keptBytes Chip.Eeprom) t ∙ sym (spans-values i (keptBytes Chip.Eeprom) t)
-
-returns-7 : tie.Need-returns-7
-unfolding fit
-returns-7 c = c .is-clear2 .ensures ∙ rw (via (c .before .before .before .before .before .before .before .before .before .image-fits .ensures) (not-false _ (c .before .before .before .before .before .before .before .before .if1 .left)), via (c .before .before .before .before .before .before .before .image-fits2 .ensures) (not-false _ (c .before .before .before .before .before .before .if2 .left)), eq-eqb _ _ (c .before .before .before .before .before .if3 .left), eq-eqb _ _ (c .before .before .before .before .if4 .left), eq-eqb _ _ (c .before .before .before .if5 .left), via (c .before .before .is-clear .ensures) (not-false _ (c .before .if6 .left)))
+returns-3 c = c .fits-images .ensures ∙ rw (eq-eqb _ _ (c .before .before .if1 .left), eq-eqb _ _ (c .before .if2 .left))
 
 pub fits-all-spec : {M : Type 1} → statement M
-fits-all-spec =
-    tie.close
-    (tie.spec
-    image-fits-requires
-    returns
-    image-fits-requires-2
-    returns-2
-    returns-3
-    returns-4
-    returns-5
-    is-clear-requires
-    returns-6
-    is-clear-requires-2
-    returns-7)
+fits-all-spec = tie.close (tie.spec returns returns-2 fits-images-requires returns-3)

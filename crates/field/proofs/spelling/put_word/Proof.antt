@@ -1,8 +1,8 @@
-use Rattle.field.proofs.SpellingLaws.{put-whole, put-none, put-more}
+use Rattle.field.proofs.SpellingLaws.{put-whole, put-none, put-in-place, put-over}
 use borrow.Author.Needs.{needs}
 use Prim.Native.Nat.{_≤_, _-_}
 use native.Mathlib.Omega.{arith}
-use mathlib.Core.Path.{_≡_, sym, _∙_}
+use mathlib.Core.Path.{_≡_, sym}
 use lib.ListN.{length, take}
 use Rattle.field.specs.Spelling.{putAll}
 use Rattle.field.proofs.spelling.put_word.Statement.{statement}
@@ -17,11 +17,17 @@ abbrev μ-loop : tie.MeasureT-loop
 loop-holds : tie.Need-loop-holds Inv-loop μ-loop
 loop-holds c = (omega arith, sym (put-none _))
 
-shared-slice-read-put : tie.Need-shared-slice-read-put Inv-loop μ-loop
-shared-slice-read-put c = omega arith
+returns : tie.Need-returns Inv-loop μ-loop
+returns c = put-over _ _ (c .before .before .loop .k) (c .if1 .taken) (c .before .before .loop .inv .1)
 
-put-requires : tie.Need-put-requires Inv-loop μ-loop
-put-requires c κs = search needs
+shared-slice-read-next : tie.Need-shared-slice-read-next Inv-loop μ-loop
+shared-slice-read-next c = omega arith
+
+element-write-next : tie.Need-element-write-next Inv-loop μ-loop
+element-write-next c = search needs
+
+add-next : tie.Need-add-next Inv-loop μ-loop
+add-next c = omega arith
 
 add-k : tie.Need-add-k Inv-loop μ-loop
 add-k c = omega arith
@@ -30,10 +36,10 @@ loop-less : tie.Need-loop-less Inv-loop μ-loop
 loop-less c = omega arith
 
 loop-again : tie.Need-loop-again Inv-loop μ-loop
-loop-again c = (omega arith, c .put .ensures ∙ put-more _ _ _ (c .before .before .loop-test .taken) (c .before .before .before .loop .inv .1))
+loop-again c = (omega arith, put-in-place _ _ _ (c .before .if1 .left) (c .before .before .loop-test .taken) (c .before .before .before .loop .inv .1))
 
-returns : tie.Need-returns Inv-loop μ-loop
-returns c = put-whole _ _ _ (c .loop-test .left) (c .before .loop .inv .1)
+returns-2 : tie.Need-returns-2 Inv-loop μ-loop
+returns-2 c = put-whole _ _ _ (c .loop-test .left) (c .before .loop .inv .1)
 
 pub put-word-spec : {M : Type 1} → statement M
 put-word-spec =
@@ -42,9 +48,11 @@ put-word-spec =
     Inv-loop
     μ-loop
     loop-holds
-    shared-slice-read-put
-    put-requires
+    returns
+    shared-slice-read-next
+    element-write-next
+    add-next
     add-k
     loop-less
     loop-again
-    returns)
+    returns-2)
