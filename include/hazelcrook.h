@@ -1,5 +1,5 @@
-/* Hazelcrook: the replay of a memory trace, and the plan that refills a flash,
- * on the caller's own buffers.
+/* Hazelcrook: the replay of a memory trace, the trace of an analyser's capture,
+ * and the plan that refills a flash, on the caller's own buffers.
  *
  * Every function below is proved for every input: it reads and writes nothing
  * but the bytes lent to it, keeps no pointer, and always returns. Two buffers
@@ -20,7 +20,8 @@ extern "C" {
 #define HAZELCROOK_TIME 5        /* such an entry */
 #define HAZELCROOK_REPLIES 40000 /* four for each record */
 #define HAZELCROOK_RESULT 16
-#define HAZELCROOK_TEXT 65536 /* the longest text */
+#define HAZELCROOK_TEXT 65536 /* the longest text, of a trace or of levels */
+#define HAZELCROOK_MERGED 540553 /* no merged trace is longer */
 
 /* For a plan. */
 #define HAZELCROOK_CHIP 131072        /* a content of the whole flash */
@@ -44,6 +45,14 @@ enum {
   HAZELCROOK_CROWDED = 6,       /* more than 8 F, 8 E or 2 L records at one stamp */
   HAZELCROOK_ORDERS_DIFFER = 7, /* the trace does not fix the order at that stamp */
   HAZELCROOK_STATUS_LOST = 8    /* the flash's status is lost after that stamp */
+};
+
+/* Answers of the merge and of the second engine beside 0 to 5. */
+enum {
+  HAZELCROOK_TOO_SHORT = 10, /* the output is too short for the merged trace */
+  HAZELCROOK_BAD_LEVEL = 12, /* a level line of wrong form, a wrong first line, a stamp below the
+                                one before or equal to that of a record taken from the logger */
+  HAZELCROOK_TOGETHER = 13   /* SCK changes together with CS, SI or HOLD, or SCL with SDA */
 };
 
 /* Answers of a plan; 0 is a plan. */
@@ -149,6 +158,53 @@ uint32_t hazelcrook_plan(const uint8_t *present, size_t present_len,
                          uint8_t status,
                          uint8_t *list, size_t list_len,
                          uint8_t *result, size_t result_len);
+
+/* One trace of an analyser's capture and a logger's trace; returns the answer.
+ *
+ * levels: the capture, at most 65,536 bytes. Each line has a stamp, then CS,
+ * SCK, SI, SO, HOLD, SCL and SDA, each 0 or 1, parted by tabs, and ends with
+ * LF; stamps never fall. The first line shows CS, HOLD, SCL and SDA at 1 and
+ * SCK at 0. trace: the logger's trace, as the replay takes it; its line
+ * records and cycle ends are taken, its other records passed over. No level
+ * line may have the stamp of a record that is taken.
+ *
+ * output: of any length, also 0; gets the merged trace under the logger's
+ * board line, by stamp, and at one stamp F, E, L; what is behind it stays as
+ * it was. It may be longer than the 65,536 bytes that the replay takes.
+ *
+ * result: the answer, the line (3, 4, 5: of the logger's trace; 12, 13: of the
+ * levels), the length written, and the field (answer 3; else 0); four bytes
+ * each, low byte first. With a result that is not 16 bytes the answer is 1 and
+ * nothing is written anywhere. The refusals are asked in this order: 1; 2 to 5
+ * of the logger's trace; 2 for the levels' length; 12 or 13 for their first
+ * bad line; 10. Each but 1 writes the result, with length 0; all leave the
+ * output as it was. */
+uint32_t hazelcrook_merge(const uint8_t *levels, size_t levels_len,
+                          const uint8_t *trace, size_t trace_len,
+                          uint8_t *output, size_t output_len,
+                          uint8_t *result, size_t result_len);
+
+/* The second engine: plays the records of a capture and of the logger's trace
+ * straight through on the lent images, in the order of the merged trace,
+ * without writing one and without trying another order; returns the answer.
+ *
+ * levels, trace: as for the merge. flash to eeprom_mask: as for the replay.
+ * result: as for the merge, its third number always 0. Refusals are those of
+ * the merge without 10; 1 is the replay's, for these buffers. A refusal writes
+ * only the result. Answer 0 leaves the images and masks after the last record.
+ *
+ * Where the replay of the merged trace on the same images answers 0, both
+ * leave the same images and masks. The second engine judges no order and
+ * never stops: where the replay does (6, 7, 8), or where the merged trace is
+ * too long for it (2), images and masks are those of the written order alone,
+ * which nothing shows to be the one that was. */
+uint32_t hazelcrook_play_levels(const uint8_t *levels, size_t levels_len,
+                                const uint8_t *trace, size_t trace_len,
+                                uint8_t *flash, size_t flash_len,
+                                uint8_t *flash_mask, size_t flash_mask_len,
+                                uint8_t *eeprom, size_t eeprom_len,
+                                uint8_t *eeprom_mask, size_t eeprom_mask_len,
+                                uint8_t *result, size_t result_len);
 
 #ifdef __cplusplus
 }

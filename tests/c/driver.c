@@ -3,13 +3,16 @@
  *
  *   driver          the replay: text, flash image, flash mask, EEPROM image, EEPROM mask, page times, replies, result
  *   driver plan     the plan: present and wanted content, status (one byte), list, result
+ *   driver merge    the merge: level text, logger's trace, output, result
+ *   driver levels   the second engine: level text, logger's trace, flash image, flash mask, EEPROM image, EEPROM mask,
+ *                   result
  *
  * A request on standard input: the lengths of the buffers, each in four bytes with the low one first, then the bytes of
  * each. The answer on standard output: the call's answer in four bytes, then the buffers that the call may write, as
  * long as they were. Lengths that are all zero, or the end of the input, end the program.
  *
  * Every buffer lies between two pages that nothing may touch (guarded.h): in even cases against the upper one, in odd
- * cases against the lower; what is left of its pages on the other side must come back unchanged. The text, the two
+ * cases against the lower; what is left of its pages on the other side must come back unchanged. The texts, the two
  * contents and the status may only be read.
  */
 #define _DEFAULT_SOURCE
@@ -19,8 +22,9 @@
 
 enum { MOST_BUFFERS = 8, STATUS = 2 };
 
-/* A call, the buffers lent to it, and how many of them, from the first on, may only be read. */
+/* A call by its word, the buffers lent to it, and how many of them, from the first on, may only be read. */
 struct call {
+    const char *word;
     uint32_t (*run)(const struct lent *lent);
     int buffers, only_read;
 };
@@ -42,7 +46,33 @@ static uint32_t plan(const struct lent *lent)
                            lent[3].bytes, lent[3].len, lent[4].bytes, lent[4].len);
 }
 
-static const struct call REPLAY = {replay, 8, 1}, PLAN = {plan, 5, 3};
+static uint32_t merge(const struct lent *lent)
+{
+    return hazelcrook_merge(lent[0].bytes, lent[0].len, lent[1].bytes, lent[1].len, lent[2].bytes, lent[2].len,
+                            lent[3].bytes, lent[3].len);
+}
+
+static uint32_t play_levels(const struct lent *lent)
+{
+    return hazelcrook_play_levels(lent[0].bytes, lent[0].len, lent[1].bytes, lent[1].len, lent[2].bytes, lent[2].len,
+                                  lent[3].bytes, lent[3].len, lent[4].bytes, lent[4].len, lent[5].bytes, lent[5].len,
+                                  lent[6].bytes, lent[6].len);
+}
+
+/* The replay has no word: it is made where none is given. */
+static const struct call CALLS[] = {
+    {"", replay, 8, 1}, {"plan", plan, 5, 3}, {"merge", merge, 4, 2}, {"levels", play_levels, 7, 2}};
+
+/* The call of a word; none where no call has it. */
+static const struct call *call_of(const char *word)
+{
+    size_t which;
+
+    for (which = 0; which < sizeof CALLS / sizeof CALLS[0]; which++)
+        if (strcmp(word, CALLS[which].word) == 0)
+            return &CALLS[which];
+    return NULL;
+}
 
 /* 1 where all was read, 0 where the input had ended. */
 static int read_all(void *into, size_t len)
@@ -127,11 +157,11 @@ static int serve(const struct call *call, enum side side)
 
 int main(int argc, char **argv)
 {
-    const struct call *call = argc == 2 && strcmp(argv[1], "plan") == 0 ? &PLAN : &REPLAY;
+    const struct call *call = call_of(argc > 1 ? argv[1] : "");
     enum side side = AGAINST_UPPER;
 
-    if (argc > 1 && call == &REPLAY) {
-        fputs("usage: driver [plan]\n", stderr);
+    if (argc > 2 || call == NULL) {
+        fputs("usage: driver [plan | merge | levels]\n", stderr);
         return 2;
     }
     while (serve(call, side))

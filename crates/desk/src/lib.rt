@@ -1,4 +1,4 @@
-// The replay on the caller's own buffers: what the desk's viewer, a C program, calls. And the plan, for the repair shop's programs: all that is exported stands here.
+// The replay on the caller's own buffers: what the desk's viewer, a C program, calls. And the plan, the merge and the second engine, for the repair shop's programs: all that is exported stands here.
 // A stamp is judged before a byte of it is played, so nothing is ever undone and no image is copied.
 ghost use mathlib.Core.Path.{_≡_};
 ghost use Prim.Native.Nat.{_+_, _≤_, min};
@@ -19,6 +19,8 @@ ghost use Rattle.call.specs.Replay.{endedAs, Replays, chipOf};
 ghost use Rattle.call.specs.Run.{endedWith, Runs, goesOn};
 ghost use Rattle.orders.specs.Verdicts.{verdictAnswer};
 ghost use Rattle.fewest.specs.Call.{leftAs, Plans};
+ghost use Rattle.merged.specs.Merging.{outputsOf, wroteAs, Merges};
+ghost use Rattle.engine.specs.Playing.{lentOf, playedAs, Plays};
 use controls::Controls;
 use orders::Verdict;
 use record::Answer;
@@ -348,4 +350,43 @@ pub extern "C" fn hazelcrook_plan(
     ensures { λ r. ⌜ Plans status (now (present .entry)) (now (wanted .entry)) (now (list .entry)) (now (result .entry)) (leftAs r (now (list .exit)) (now (result .exit))) ⌝ }
 {
     planner::plan(present, wanted, status, list, result)
+}
+
+// One trace of a capture and a logger's trace: answers 0 to 5, 10, 12 and 13 (document 02, request 4/12).
+#[no_mangle]
+pub extern "C" fn hazelcrook_merge(
+    levels: &[u8],
+    trace: &[u8],
+    output: &mut [u8],
+    result: &mut [u8],
+) -> u32
+    ensures { λ r. ⌜ Merges (now (levels .entry)) (now (trace .entry)) (outputsOf (now (output .entry)) (now (result .entry))) (wroteAs r (outputsOf (now (output .exit)) (now (result .exit)))) ⌝ }
+{
+    merged::merge(levels, trace, output, result)
+}
+
+// The second engine, which plays the levels straight through: answers 0 to 5, 12 and 13 (document 02, request 4/12).
+#[no_mangle]
+pub extern "C" fn hazelcrook_play_levels(
+    levels: &[u8],
+    trace: &[u8],
+    flash: &mut [u8],
+    flash_mask: &mut [u8],
+    eeprom: &mut [u8],
+    eeprom_mask: &mut [u8],
+    result: &mut [u8],
+) -> u32
+    ensures { λ r. ⌜ Plays (now (levels .entry)) (now (trace .entry))
+        (lentOf (now (flash .entry)) (now («flash_mask» .entry)) (now (eeprom .entry)) (now («eeprom_mask» .entry)) (now (result .entry)))
+        (playedAs r (lentOf (now (flash .exit)) (now («flash_mask» .exit)) (now (eeprom .exit)) (now («eeprom_mask» .exit)) (now (result .exit)))) ⌝ }
+{
+    engine::play_levels(
+        levels,
+        trace,
+        flash,
+        flash_mask,
+        eeprom,
+        eeprom_mask,
+        result,
+    )
 }

@@ -7,3 +7,5 @@ pub mod Numbers
 pub mod Places
 pub mod Rest
 pub mod Stretch
+pub mod Order
+pub mod Ordering

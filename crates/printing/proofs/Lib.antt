@@ -11,6 +11,8 @@ pub mod One
 pub mod Copying
 pub mod Lent
 pub mod Some
+pub mod MergeLaws
+pub mod OneMerge
 pub mod Example
 pub mod StopExample
 pub mod RefusedExample

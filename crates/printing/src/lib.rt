@@ -9,6 +9,12 @@ ghost use Rattle.times.specs.Times.{timesLength};
 ghost use Rattle.printing.specs.Printed.{dumpsOf, Prints, PrintsPages};
 ghost use Rattle.printing.specs.Lending.{lentFor, LeftFor};
 
+mod merge;
+
+pub use merge::MERGE_ROOM;
+pub use merge::ToPrint;
+pub use merge::print_merge;
+
 fn copy(from: &[u8], to: &mut [u8])
     requires { ⌜ length (now from) ≡ length (now to) ⌝ }
     ensures { λ _. ⌜ now (to .exit) ≡ now (from .entry) ⌝ }

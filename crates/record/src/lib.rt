@@ -1,7 +1,7 @@
 // The vocabulary of document 01: events, records, the board, the two lines, replies and answers, with the paper's number for each case.
 ghost use mathlib.Core.Path.{_≡_};
 ghost use Rattle.law.specs.Deciding.{Decides};
-ghost use Rattle.record.specs.Answers.{answerNumber, planAnswerNumber};
+ghost use Rattle.record.specs.Answers.{answerNumber, planAnswerNumber, levelsAnswerNumber};
 ghost use Rattle.record.specs.Replies.{replyKind, replyValue, replyMask, matchNumber};
 ghost use Rattle.record.specs.Status.{StatusOk};
 ghost use Rattle.record.specs.Skeletons.{skeletonNumbers};
@@ -222,6 +222,24 @@ pub fn plan_answer_number(a: PlanAnswer) -> u32
         PlanAnswer::Unfit => 14,
         PlanAnswer::Locked => 15,
         PlanAnswer::NoRoom => 16,
+    }
+}
+
+// What is answered to levels and a logger's trace beside 0 to 5.
+pub enum LevelsAnswer {
+    BadLevel,
+    Together,
+    TooShort,
+}
+
+// The paper's number of such an answer.
+pub fn levels_answer_number(a: LevelsAnswer) -> u32
+    ensures { λ r. ⌜ r ≡ levelsAnswerNumber a ⌝ }
+{
+    match a {
+        LevelsAnswer::BadLevel => 12,
+        LevelsAnswer::Together => 13,
+        LevelsAnswer::TooShort => 10,
     }
 }
 

@@ -12,7 +12,7 @@ use crate::report::{fresh_folder, Group, Report, Saved};
 use std::fs;
 use std::io;
 use std::path::Path;
-use std::process::Command;
+use std::process::{Command, Output};
 
 /// The listing that a program owes for the files in the present folder.
 pub fn here(listing: Listing) -> io::Result<String> {
@@ -123,25 +123,31 @@ fn answer_told(listing: &str) -> u32 {
 
 /// The first line in which the program's listing is not as it must be.
 pub fn unlike(command: &[String], files: &NamedFiles, due: &str) -> Option<String> {
-    let found = match printed(command, files) {
-        Ok(found) => String::from_utf8_lossy(&found).into_owned(),
-        Err(error) => return Some(format!("the program did not run: {}", error)),
-    };
+    match run_on(command, files) {
+        Ok(output) => unlike_text("listing", &output.stdout, due.as_bytes()),
+        Err(error) => Some(format!("the program did not run: {}", error)),
+    }
+}
+
+/// The first line in which a text is not as it must be.
+pub fn unlike_text(name: &str, found: &[u8], due: &[u8]) -> Option<String> {
     if found == due {
         return None;
     }
+    let (found, due) = (String::from_utf8_lossy(found), String::from_utf8_lossy(due));
     let place = found.lines().zip(due.lines()).take_while(|(one, other)| one == other).count();
     let line = |text: &str| text.lines().nth(place).map(String::from);
-    Some(format!("listing line {}: {:?} where {:?} is due", place + 1, line(&found), line(due)))
+    Some(format!("{} line {}: {:?} where {:?} is due", name, place + 1, line(&found), line(&due)))
 }
 
-fn printed(command: &[String], files: &NamedFiles) -> io::Result<Vec<u8>> {
+/// What a program says in a folder with these files.
+pub fn run_on(command: &[String], files: &NamedFiles) -> io::Result<Output> {
     let folder = fresh_folder()?;
     write_named(&folder, files)?;
     let (program, arguments) = command.split_first().ok_or(io::ErrorKind::InvalidInput)?;
     let output = Command::new(program).args(arguments).current_dir(&folder).output()?;
     fs::remove_dir_all(&folder)?;
-    Ok(output.stdout)
+    Ok(output)
 }
 
 /// The files that a program finds in its folder, each None where it is absent.

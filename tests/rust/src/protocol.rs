@@ -3,6 +3,7 @@
 //! Lengths that are all zero, or the end of the input, end the talk.
 
 use crate::model::call::{Call, BUFFERS};
+use crate::model::capture_calls::{MergeCall, PlayCall};
 use crate::model::plan::PlanCall;
 use std::io::{self, Read, Write};
 use std::slice;
@@ -67,6 +68,53 @@ impl Asked for PlanCall {
             _ => return None,
         };
         Some(PlanCall { present, wanted, status, list: buffers.next()?, result: buffers.next()? })
+    }
+}
+
+impl Asked for MergeCall {
+    const BUFFERS: usize = 4;
+    const ONLY_READ: usize = 2;
+
+    fn asked(&self) -> Vec<&[u8]> {
+        vec![&self.levels, &self.trace, &self.output, &self.result]
+    }
+
+    fn lent_mut(&mut self) -> Vec<&mut Vec<u8>> {
+        vec![&mut self.output, &mut self.result]
+    }
+
+    fn of_buffers(buffers: Vec<Vec<u8>>) -> Option<MergeCall> {
+        let mut buffers = buffers.into_iter();
+        let (levels, trace) = (buffers.next()?, buffers.next()?);
+        Some(MergeCall { levels, trace, output: buffers.next()?, result: buffers.next()? })
+    }
+}
+
+impl Asked for PlayCall {
+    const BUFFERS: usize = 7;
+    const ONLY_READ: usize = 2;
+
+    fn asked(&self) -> Vec<&[u8]> {
+        let PlayCall { levels, trace, flash, flash_mask, eeprom, eeprom_mask, result } = self;
+        vec![levels, trace, flash, flash_mask, eeprom, eeprom_mask, result]
+    }
+
+    fn lent_mut(&mut self) -> Vec<&mut Vec<u8>> {
+        let PlayCall { flash, flash_mask, eeprom, eeprom_mask, result, .. } = self;
+        vec![flash, flash_mask, eeprom, eeprom_mask, result]
+    }
+
+    fn of_buffers(buffers: Vec<Vec<u8>>) -> Option<PlayCall> {
+        let mut buffers = buffers.into_iter();
+        Some(PlayCall {
+            levels: buffers.next()?,
+            trace: buffers.next()?,
+            flash: buffers.next()?,
+            flash_mask: buffers.next()?,
+            eeprom: buffers.next()?,
+            eeprom_mask: buffers.next()?,
+            result: buffers.next()?,
+        })
     }
 }
 

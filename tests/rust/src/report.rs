@@ -1,6 +1,8 @@
 //! What a check prints, and where it lays down the cases that failed.
 
 use crate::model::call::{Call, BUFFERS};
+use crate::model::capture_calls::{MergeCall, PlayCall};
+use crate::model::merge_listing::MergeFiles;
 use crate::model::plan::PlanCall;
 use crate::model::plan_listing::PlanFiles;
 use crate::protocol::Asked;
@@ -74,8 +76,14 @@ pub trait Saved {
     fn files(&self) -> Vec<(&'static str, &[u8])>;
 }
 
+/// Those that can be read as they are.
+const TEXTS: [&str; 3] = ["trace.tsv", "levels.tsv", "logger.tsv"];
+
 const CALL_FILES: [&str; BUFFERS] =
     ["trace.tsv", "flash.bin", "flash-mask.bin", "eeprom.bin", "eeprom-mask.bin", "times.bin", "replies.bin", "result.bin"];
+const MERGE_FILES: [&str; 4] = ["levels.tsv", "trace.tsv", "output.bin", "result.bin"];
+const PLAY_FILES: [&str; 7] =
+    ["levels.tsv", "trace.tsv", "flash.bin", "flash-mask.bin", "eeprom.bin", "eeprom-mask.bin", "result.bin"];
 const PLAN_FILES: [&str; 5] = ["present.bin", "wanted.bin", "status.bin", "list.bin", "result.bin"];
 
 impl Saved for Call {
@@ -90,10 +98,33 @@ impl Saved for PlanCall {
     }
 }
 
+impl Saved for MergeCall {
+    fn files(&self) -> Vec<(&'static str, &[u8])> {
+        MERGE_FILES.into_iter().zip(self.asked()).collect()
+    }
+}
+
+impl Saved for PlayCall {
+    fn files(&self) -> Vec<(&'static str, &[u8])> {
+        PLAY_FILES.into_iter().zip(self.asked()).collect()
+    }
+}
+
 impl Saved for PlanFiles {
     fn files(&self) -> Vec<(&'static str, &[u8])> {
-        self.named().into_iter().filter_map(|(name, content)| Some((name, content.as_deref()?))).collect()
+        present(self.named())
     }
+}
+
+impl Saved for MergeFiles {
+    fn files(&self) -> Vec<(&'static str, &[u8])> {
+        present(self.named())
+    }
+}
+
+/// Of a program's files those that are there.
+fn present<'a>(files: Vec<(&'static str, &'a Option<Vec<u8>>)>) -> Vec<(&'static str, &'a [u8])> {
+    files.into_iter().filter_map(|(name, content)| Some((name, content.as_deref()?))).collect()
 }
 
 fn show(call: &dyn Saved) {
@@ -102,7 +133,7 @@ fn show(call: &dyn Saved) {
         Err(error) => println!("  its buffers could not be saved: {}", error),
     }
     for (name, bytes) in call.files() {
-        if name == CALL_FILES[0] && bytes.len() <= SHOWN_TEXT {
+        if TEXTS.contains(&name) && bytes.len() <= SHOWN_TEXT {
             println!("{}", String::from_utf8_lossy(bytes));
         }
     }

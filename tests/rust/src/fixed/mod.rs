@@ -3,6 +3,7 @@
 mod bad_fields;
 mod bench_sheet;
 mod buffers;
+pub mod captures;
 mod cut_pages;
 mod doubts;
 mod eeprom_cases;

@@ -11,6 +11,7 @@ use crate::model::flash;
 use crate::model::record::{BoardLine, EepromEvent, Event, FlashEvent, LineEvent, Reply};
 use crate::model::replay::start;
 use crate::model::stamp::Board;
+use crate::model::written::{board_line_of, line_of};
 use std::collections::VecDeque;
 
 /// How a trace is to be, in hundredths.
@@ -78,12 +79,11 @@ impl<'a> Author<'a> {
     pub fn new(random: &'a mut Random, board: BoardLine, dumps: &Dumps, style: Style) -> Author<'a> {
         let hot = (0..3).map(|_| hot_place(random)).collect();
         let places = Places { watched: board.watched, hot, long_pages: style.long_pages };
-        let text = format!("board\t{:02x}\t{}\t{}\n", board.status, board.watched, board.address);
         let first = random.pick(&[0, 1, 10, 1000, 4_000_000_000]);
         Author {
             random,
             board: start(board, dumps.flash.clone(), dumps.eeprom.clone()),
-            text: text.into_bytes(),
+            text: board_line_of(board).into_bytes(),
             style,
             places,
             flash_frames: flash_frames::next_frame,
@@ -208,6 +208,18 @@ impl<'a> Author<'a> {
         }
     }
 
+    /// The rest of the frames that are open, so that another may follow.
+    pub fn finish_frames(&mut self) {
+        while !self.flash_next.is_empty() {
+            self.next_stamp();
+            self.take(Channel::F);
+        }
+        while !self.eeprom_next.is_empty() {
+            self.next_stamp();
+            self.take(Channel::E);
+        }
+    }
+
     fn next_line(&mut self) -> LineEvent {
         let in_cycle = self.board.flash.cycle.is_some() || self.board.eeprom.cycle.is_some();
         let writes_status = matches!(self.board.flash.cycle, Some(flash::Cycle::WriteStatus { .. }));
@@ -287,28 +299,5 @@ fn hot_place(random: &mut Random) -> usize {
         1 => random.below(512) * 64 + 61 + random.below(3),
         2 => 0,
         _ => random.below(0x8000),
-    }
-}
-
-pub fn line_of(stamp: u64, event: Event) -> String {
-    format!("{}\t{}\n", stamp, event_fields(event))
-}
-
-pub fn event_fields(event: Event) -> String {
-    match event {
-        Event::F(FlashEvent::Sel) => String::from("F\tsel"),
-        Event::F(FlashEvent::X { si, so }) => format!("F\tx\t{:02x}\t{:02x}", si, so),
-        Event::F(FlashEvent::Cut) => String::from("F\tcut"),
-        Event::F(FlashEvent::Des) => String::from("F\tdes"),
-        Event::F(FlashEvent::End) => String::from("F\tend"),
-        Event::E(EepromEvent::Sta) => String::from("E\tsta"),
-        Event::E(EepromEvent::B { byte, not_acknowledged }) => format!("E\tb\t{:02x}\t{}", byte, u8::from(not_acknowledged)),
-        Event::E(EepromEvent::Cut) => String::from("E\tcut"),
-        Event::E(EepromEvent::Sto) => String::from("E\tsto"),
-        Event::E(EepromEvent::End) => String::from("E\tend"),
-        Event::L(LineEvent::On) => String::from("L\ton"),
-        Event::L(LineEvent::Off) => String::from("L\toff"),
-        Event::L(LineEvent::Lock) => String::from("L\tlock"),
-        Event::L(LineEvent::Free) => String::from("L\tfree"),
     }
 }

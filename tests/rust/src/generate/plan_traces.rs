@@ -1,9 +1,9 @@
 //! The trace that plays a plan: for each entry WREN's frame, the entry's own, and `end`, every record at a stamp of its own.
 
-use super::author::line_of;
 use crate::model::plan::Entry;
 use crate::model::record::{BoardLine, Event, FlashEvent};
 use crate::model::text::TEXT_MOST;
+use crate::model::written::{board_line_of, line_of};
 
 const WREN: u8 = 0x06;
 const PROGRAM: u8 = 0x02;
@@ -53,7 +53,7 @@ pub struct Text {
 
 /// The texts that play a list one after the other, each as long as a text may be. Without entries it is a board line alone.
 pub fn texts(board: BoardLine, entries: &[Entry]) -> Vec<Text> {
-    let head = format!("board\t{:02x}\t{}\t{}\n", board.status, board.watched, board.address).into_bytes();
+    let head = board_line_of(board).into_bytes();
     let mut texts = vec![Text { text: head.clone(), entries: 0 }];
     let mut stamp = 0;
     for entry in entries {

@@ -1,11 +1,7 @@
-//! A trace with every kind of line, spoilt at each of its bytes.
+//! A trace with every kind of line, and a capture, spoilt at each of its bytes.
 
 /// Stamps have every length, so that numbers are cut and changed everywhere.
-const EVERY_LINE: &[u8] = include_bytes!("../../../c/traces/every-line.tsv");
-
-pub fn whole() -> Vec<u8> {
-    EVERY_LINE.to_vec()
-}
+pub const EVERY_LINE: &[u8] = include_bytes!("../../../c/traces/every-line.tsv");
 
 /// What happens to a text at a place.
 pub type Spoil = fn(&mut Vec<u8>, usize);
@@ -23,12 +19,21 @@ pub const WAYS: [(&str, Spoil); 8] = [
     ("a line end before every byte", |text, place| text.insert(place, b'\n')),
 ];
 
-/// The text spoilt in one way, at each place in turn.
+/// The trace spoilt in one way, at each place in turn.
 pub fn texts(spoil: Spoil) -> impl Iterator<Item = Vec<u8>> {
-    let whole = whole();
+    texts_of(EVERY_LINE, spoil)
+}
+
+pub fn texts_of(whole: &'static [u8], spoil: Spoil) -> impl Iterator<Item = Vec<u8>> {
     (0..whole.len()).map(move |place| {
-        let mut text = whole.clone();
+        let mut text = whole.to_vec();
         spoil(&mut text, place);
         text
     })
 }
+
+/// A capture (request 4/12) of a frame on each bus, with a byte of either and a pause, and stamps of every length.
+pub const CAPTURE: &[u8] = include_bytes!("../../../c/traces/levels.tsv");
+
+/// Its logger's trace: records before, between and behind, of which some are taken.
+pub const LOGGER: &[u8] = include_bytes!("../../../c/traces/logger.tsv");

@@ -88,6 +88,6 @@ pub fn result_bytes(numbers: [u32; 4]) -> Vec<u8> {
     numbers.iter().flat_map(|number| number.to_le_bytes()).collect()
 }
 
-fn has_bit_in_both(image: &[u8], mask: &[u8]) -> bool {
+pub fn has_bit_in_both(image: &[u8], mask: &[u8]) -> bool {
     image.iter().zip(mask).any(|(value, doubt)| value & doubt != 0)
 }

@@ -8,8 +8,8 @@ use super::record::{Event, Record, Reply};
 use super::replay::{replay, stamps, start, Ending};
 use super::stamp::{judge, Board, Orders, Verdict};
 use super::text::{read, Refusal, TEXT_MOST};
+use super::written::event_fields;
 use crate::fixed;
-use crate::generate::author::event_fields;
 use crate::generate::cut_pages::cut_pages;
 use crate::generate::damage::DAMAGES;
 use crate::generate::kinds::{self, Kind};
@@ -217,7 +217,7 @@ fn generated_damage_reaches_every_field() {
 
 #[test]
 fn the_trace_that_is_spoilt_has_every_kind_of_line() {
-    let trace = read(&spoilt::whole()).unwrap();
+    let trace = read(spoilt::EVERY_LINE).unwrap();
     let word = |record: &Record| event_fields(record.event).split('\t').take(2).collect::<Vec<_>>().join(" ");
     let mut words: Vec<String> = trace.records.iter().map(word).collect();
     words.sort();

@@ -38,7 +38,7 @@ pub fn read(text: &[u8]) -> Result<Trace, Refusal> {
 
 /// A line: what stands before its LF, or before the text's end.
 #[derive(Clone, Copy)]
-struct Line<'a> {
+pub struct Line<'a> {
     content: &'a [u8],
     has_lf: bool,
 }
@@ -48,7 +48,7 @@ const NO_TEXT: Line = Line { content: &[], has_lf: false };
 
 impl Line<'_> {
     /// A line that lacks its LF has no right form.
-    fn read_by<T>(self, form: fn(&[u8]) -> Option<T>) -> Option<T> {
+    pub fn read_by<T>(self, form: fn(&[u8]) -> Option<T>) -> Option<T> {
         if self.has_lf {
             form(self.content)
         } else {
@@ -57,7 +57,7 @@ impl Line<'_> {
     }
 }
 
-fn split_lines(text: &[u8]) -> Vec<Line<'_>> {
+pub fn split_lines(text: &[u8]) -> Vec<Line<'_>> {
     let mut lines: Vec<Line> = text.split(|&byte| byte == b'\n').map(|content| Line { content, has_lf: true }).collect();
     // What stands behind the last LF is a line only where something does.
     let rest = lines.pop().map_or(&text[..0], |last| last.content);

@@ -1,0 +1,2 @@
+-- Worked captures.
+pub mod Worked

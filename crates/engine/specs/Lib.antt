@@ -1,0 +1,3 @@
+-- What the second engine promises.
+pub mod Playing
+pub mod Straight

@@ -1,0 +1,2 @@
+-- What the callers of the merge and of the second engine get.
+pub mod Raw

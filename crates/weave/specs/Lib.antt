@@ -1,0 +1,3 @@
+-- What feeds give, and several of them in one order.
+pub mod Feeding
+pub mod Weaving
