@@ -17,9 +17,9 @@
 #include <stdio.h>
 #include <stdlib.h>
 #include <string.h>
-#include <time.h>
 
 #include "hazelcrook.h"
+#include "measure.h"
 #include "replays.h"
 
 enum way { LIBRARY, PLAIN, PASS, WAYS };
@@ -125,14 +125,6 @@ static void restore(void)
     memset(desk.result, 0x5a, sizeof desk.result);
 }
 
-static double now(void)
-{
-    struct timespec time;
-
-    clock_gettime(CLOCK_MONOTONIC, &time);
-    return (double)time.tv_sec + (double)time.tv_nsec * 1e-9;
-}
-
 /* One call on fresh buffers, and how long it took. */
 static double timed(const struct trace *trace, enum way way)
 {
@@ -207,13 +199,6 @@ static double first_turn(struct trace *trace)
         }
     }
     return seconds;
-}
-
-static int by_size(const void *one, const void *other)
-{
-    double a = *(const double *)one, b = *(const double *)other;
-
-    return (a > b) - (a < b);
 }
 
 /* Which comes at a place of a turn: the order goes round from turn to turn, and every other time back, so that each comes

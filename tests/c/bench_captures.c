@@ -18,9 +18,9 @@
 #include <stdio.h>
 #include <stdlib.h>
 #include <string.h>
-#include <time.h>
 
 #include "hazelcrook.h"
+#include "measure.h"
 
 enum { LEAST_TURNS = 9, MOST_TURNS = 100000, WORDS = 3 };
 
@@ -90,14 +90,6 @@ struct call {
 /* In this order: the first tells what the second needs. */
 static const struct call CALLS[] = {{"merge", merge}, {"fitting", merge_fitting}, {"levels", play}};
 
-static double now(void)
-{
-    struct timespec time;
-
-    clock_gettime(CLOCK_MONOTONIC, &time);
-    return (double)time.tv_sec + (double)time.tv_nsec * 1e-9;
-}
-
 /* One call on buffers as they were, and how long it took. */
 static double timed(const struct call *call, const char *name)
 {
@@ -117,13 +109,6 @@ static double timed(const struct call *call, const char *name)
         exit(2);
     }
     return seconds;
-}
-
-static int by_size(const void *one, const void *other)
-{
-    double a = *(const double *)one, b = *(const double *)other;
-
-    return (a > b) - (a < b);
 }
 
 /* Tells least and median; the median is given back. */
@@ -149,18 +134,6 @@ static double measure(const struct call *call, const char *name, int most)
     return times[turns / 2];
 }
 
-/* Tells how the bar stands; 0 where it is missed. */
-static int tell_bar(double worst, int judged)
-{
-    if (!judged) {
-        printf("not judged: what an emulator runs, and what few turns tell, is no measurement\n");
-        return 1;
-    }
-    printf("%s: every capture merged and played under %.0f ms (the longest median is %.1f us)\n",
-           worst < MOST ? "holds" : "MISSED", MOST * 1e3, worst * 1e6);
-    return worst < MOST;
-}
-
 int main(int argc, char **argv)
 {
     int turns = argc > 2 ? atoi(argv[1]) : 0, judged = argc > 2 && strcmp(argv[2], "judged") == 0, word;
@@ -182,5 +155,5 @@ int main(int argc, char **argv)
             worst = median > worst ? median : worst;
         }
     }
-    return tell_bar(worst, judged) ? 0 : 1;
+    return tell_worst("every capture merged and played", worst, MOST, judged) ? 0 : 1;
 }

@@ -15,9 +15,9 @@
 #include <stdio.h>
 #include <stdlib.h>
 #include <string.h>
-#include <time.h>
 
 #include "hazelcrook.h"
+#include "measure.h"
 
 enum { LEAST_TURNS = 9, MOST_TURNS = 100000, PAGE = 256, PAGES = HAZELCROOK_CHIP / PAGE, SECTOR = 32768, SECTORS = 4 };
 
@@ -173,14 +173,6 @@ static const struct pair PAIRS[] = {
 
 /* Measuring. */
 
-static double now(void)
-{
-    struct timespec time;
-
-    clock_gettime(CLOCK_MONOTONIC, &time);
-    return (double)time.tv_sec + (double)time.tv_nsec * 1e-9;
-}
-
 static uint32_t number_at(const uint8_t *four)
 {
     return (uint32_t)four[0] | (uint32_t)four[1] << 8 | (uint32_t)four[2] << 16 | (uint32_t)four[3] << 24;
@@ -205,13 +197,6 @@ static double timed(const struct pair *pair)
         exit(2);
     }
     return seconds;
-}
-
-static int by_size(const void *one, const void *other)
-{
-    double a = *(const double *)one, b = *(const double *)other;
-
-    return (a > b) - (a < b);
 }
 
 /* Tells least and median; the median is given back. */
@@ -240,18 +225,6 @@ static double measure(const struct pair *pair, int most)
     return times[turns / 2];
 }
 
-/* Tells how the bar stands; 0 where it is missed. */
-static int tell_bar(double worst, int judged)
-{
-    if (!judged) {
-        printf("not judged: what an emulator runs, and what few turns tell, is no measurement\n");
-        return 1;
-    }
-    printf("%s: every plan under 2 ms (the longest median is %.1f us)\n", worst < MOST ? "holds" : "MISSED",
-           worst * 1e6);
-    return worst < MOST;
-}
-
 int main(int argc, char **argv)
 {
     int turns = argc == 3 ? atoi(argv[1]) : 0, judged = argc == 3 && strcmp(argv[2], "judged") == 0;
@@ -268,5 +241,5 @@ int main(int argc, char **argv)
 
         worst = median > worst ? median : worst;
     }
-    return tell_bar(worst, judged) ? 0 : 1;
+    return tell_worst("every plan", worst, MOST, judged) ? 0 : 1;
 }

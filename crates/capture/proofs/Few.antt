@@ -3,10 +3,10 @@ use Prim.Native.Nat.{ℕ, _+_, _*_, _≤_}
 use native.Mathlib.Omega.{arith}
 use mathlib.Core.Path.{ap}
 use mathlib.Core.Bool.{Bool, true, false}
-use mathlib.Core.List.{List, [], _∷_, _++_}
+use mathlib.Core.List.{List, [], _∷_}
 use lib.ListN.{length, length-append, length-map}
 use Rattle.law.specs.Words.{filter, keep}
-use Rattle.law.specs.Ordering.{total-one, order-length}
+use Rattle.law.specs.Ordering.{total-one}
 use Rattle.record.specs.declared.Board.{Board}
 use Rattle.record.specs.declared.Record.{Record}
 use Rattle.text.specs.Texts.{textLimit, Readable}
@@ -18,13 +18,12 @@ use Rattle.decode.specs.declared.Out.{Out}
 use Rattle.decode.specs.declared.Out.the-variants.{Nothing, One, Two}
 use Rattle.decode.specs.declared.bits.Bits.{Bits}
 use Rattle.decode.specs.Bits.{eventsOf}
-use Rattle.decode.specs.Decoded.{turnOf, recordAt, recordsAt, decodedFrom, decodedBy, flashStart, wiresStart, flashOf, eepromOf}
-use Rattle.capture.specs.declared.Part.the-variants.{FlashEnds, EepromEnds, Lines}
-use Rattle.capture.specs.Taken.{partOf, taken, takenOf}
+use Rattle.decode.specs.Decoded.{turnOf, recordAt, recordsAt, decodedFrom, flashStart, wiresStart}
+use Rattle.capture.specs.Taken.{taken, takenOf}
 use Rattle.capture.specs.Captures.{spelledLevels, Captures}
 use Rattle.capture.specs.Most.{most}
-use Rattle.capture.specs.Merge.{numberOf, Merged}
-use Rattle.capture.proofs.Parts.{parts-total}
+use Rattle.capture.specs.Merge.{Merged}
+use Rattle.capture.proofs.Parts.{merged-total}
 
 two : (o : Out) → length (eventsOf o) ≤ 2
 unfolding eventsOf
@@ -50,18 +49,6 @@ unfolding filter
 taken-few [] = omega arith
 taken-few (r ∷ rs) = omega (arith, keep-few (taken (r .event)) r (takenOf rs), taken-few rs)
 
-parts-few : (rs : List Record) → length (partOf FlashEnds rs) + length (partOf EepromEnds rs) + length (partOf Lines rs) ≤ length rs
-parts-few rs =
-    omega (
-      arith,
-      parts-total (λ (r : Record). 1) rs,
-      total-one (takenOf rs),
-      total-one (partOf FlashEnds rs),
-      total-one (partOf EepromEnds rs),
-      total-one (partOf Lines rs),
-      taken-few rs,
-    )
-
 lines-bytes : (ls : List Level) → 16 * length ls ≤ length (spelledLevels ls)
 unfolding spelledLevels
 lines-bytes [] = omega arith
@@ -69,20 +56,17 @@ lines-bytes (l ∷ ls) = omega (arith, level-length l, lines-bytes ls, length-ap
 
 pub few : {trace levels : List ℕ} {b : Board} {rs ts : List Record} (a : Level) (ls : List Level) (m : List Record) → Readable trace b rs → length trace ≤ textLimit → Captures ts levels (a ∷ ls) → length levels ≤ textLimit →
     Merged (a ∷ ls) rs m → length m ≤ most
-unfolding decodedBy
 few {rs = rs} a ls m q h c k p =
-    let flash = flashOf (a ∷ ls) in
-    let eeprom = eepromOf (a ∷ ls) in
     omega (
       arith,
-      order-length numberOf p,
-      length-append flash (eeprom ++ (partOf FlashEnds rs ++ (partOf EepromEnds rs ++ partOf Lines rs))),
-      length-append eeprom (partOf FlashEnds rs ++ (partOf EepromEnds rs ++ partOf Lines rs)),
-      length-append (partOf FlashEnds rs) (partOf EepromEnds rs ++ partOf Lines rs),
-      length-append (partOf EepromEnds rs) (partOf Lines rs),
+      merged-total (λ (r : Record). 1) a ls rs m p,
+      total-one m,
+      total-one (decodedFrom flashStart a ls),
+      total-one (decodedFrom wiresStart a ls),
+      total-one (takenOf rs),
       decoded-few flashStart a ls,
       decoded-few wiresStart a ls,
-      parts-few rs,
+      taken-few rs,
       few-records q h,
       lines-bytes (a ∷ ls),
       ap length (c .is),

@@ -1,20 +1,22 @@
 -- The parts that are taken from the logger: what is of one is of no other and moves no bus, together they are all that is taken, and each stands by rising number.
 use mathlib.Core.Path.{_≡_, refl, sym, ap}
 use mathlib.Core.Bool.{Bool, true, false, not}
-use mathlib.Core.List.{List, [], _∷_}
+use mathlib.Core.List.{List, [], _∷_, _++_}
 use Prim.Native.Nat.{ℕ, _+_, _≤_}
 use native.Mathlib.Omega.{arith}
 use Rattle.law.specs.Choice.{true-not-false}
 use Rattle.law.specs.Words.{filter, keep, All, Rising}
 use Rattle.law.specs.Lists.{all-pass}
-use Rattle.law.specs.Ordering.{total, rising-filter}
+use Rattle.law.specs.Ordering.{total, total-append, order-total, rising-filter}
 use Rattle.record.specs.declared.Event.{Event}
 use Rattle.record.specs.declared.Event.the-variants.{Flash, Eeprom, Line}
 use Rattle.record.specs.declared.Record.{Record}
 use Rattle.capture.specs.declared.Part.{Part}
 use Rattle.capture.specs.declared.Part.the-variants.{FlashEnds, EepromEnds, Lines}
 use Rattle.capture.specs.Taken.{isOf, partOf, taken, takenOf, movesFlash, movesEeprom}
-use Rattle.capture.specs.Merge.{channelPlace, numberOf}
+use Rattle.level.specs.declared.Level.{Level}
+use Rattle.decode.specs.Decoded.{decodedFrom, decodedBy, flashStart, wiresStart, flashOf, eepromOf}
+use Rattle.capture.specs.Merge.{channelPlace, numberOf, Merged}
 
 no : {A : Type 0} → false ≡ true → A
 no e = absurd (true-not-false (sym e))
@@ -111,7 +113,7 @@ one-part (Flash e) n = omega arith
 one-part (Eeprom e) n = omega arith
 one-part (Line e) n = omega arith
 
-pub parts-total : (f : Record → ℕ) (rs : List Record) → total f (takenOf rs) ≡ total f (partOf FlashEnds rs) + total f (partOf EepromEnds rs) + total f (partOf Lines rs)
+parts-total : (f : Record → ℕ) (rs : List Record) → total f (takenOf rs) ≡ total f (partOf FlashEnds rs) + total f (partOf EepromEnds rs) + total f (partOf Lines rs)
 unfolding filter total
 parts-total f [] = refl
 parts-total f (r ∷ rs) =
@@ -122,6 +124,23 @@ parts-total f (r ∷ rs) =
       keep-total f (isOf EepromEnds (r .event)) r (partOf EepromEnds rs),
       keep-total f (isOf Lines (r .event)) r (partOf Lines rs),
       one-part (r .event) (f r),
+      parts-total f rs,
+    )
+
+-- every sum over the merged records is that over what the capture gives and what is taken
+pub merged-total : (f : Record → ℕ) (a : Level) (ls : List Level) (rs m : List Record) → Merged (a ∷ ls) rs m →
+    total f m ≡ total f (decodedFrom flashStart a ls) + total f (decodedFrom wiresStart a ls) + total f (takenOf rs)
+unfolding decodedBy
+merged-total f a ls rs m p =
+    let flash = flashOf (a ∷ ls) in
+    let eeprom = eepromOf (a ∷ ls) in
+    omega (
+      arith,
+      order-total numberOf f p,
+      total-append f flash (eeprom ++ (partOf FlashEnds rs ++ (partOf EepromEnds rs ++ partOf Lines rs))),
+      total-append f eeprom (partOf FlashEnds rs ++ (partOf EepromEnds rs ++ partOf Lines rs)),
+      total-append f (partOf FlashEnds rs) (partOf EepromEnds rs ++ partOf Lines rs),
+      total-append f (partOf EepromEnds rs) (partOf Lines rs),
       parts-total f rs,
     )
 

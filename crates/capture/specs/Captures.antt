@@ -1,6 +1,7 @@
 -- Believed: A level text that can be used, and the first bad line of one that can't (document 02, request 4/12, refusals 12 and 13). ts are the records taken from the logger.
 use Prim.Native.Nat.{ℕ, _+_, _<_}
 use mathlib.Core.Path.{_≡_}
+use mathlib.Core.Bool.{Bool}
 use mathlib.Core.Logic.{_⊎_}
 use mathlib.Core.List.{List, [], _∷_, _++_}
 use lib.Dec.{ltb}
@@ -30,11 +31,17 @@ unfoldable pub lastOf : Before → List Level → Before
 lastOf p [] = p
 lastOf p (l ∷ ls) = lastOf (line l) ls
 
--- 'a wrong first line, a stamp below the one before or equal to that of a record taken from the logger'; what changes together; '12 first on one line'
+-- 'a wrong first line, a stamp below the one before or equal to that of a record taken from the logger' (hit); what changes together; '12 first on one line'
+abbrev pub firstFault : Level → Bool → Fault
+firstFault l hit = pick (resting l) (pick hit (Bad BadLevel) Nothing) (Bad BadLevel)
+
+abbrev pub laterFault : Level → Level → Bool → Fault
+laterFault a l hit = pick (ltb (l .stamp) (a .stamp)) (Bad BadLevel) (pick hit (Bad BadLevel) (pick (clash a l) (Bad Together) Nothing))
+
+-- of the line l behind another, or as the first
 unfoldable pub faultOf : List Record → Before → Level → Fault
-faultOf ts none l = pick (resting l) (pick (stamped ts (l .stamp)) (Bad BadLevel) Nothing) (Bad BadLevel)
-faultOf ts (line a) l =
-    pick (ltb (l .stamp) (a .stamp)) (Bad BadLevel) (pick (stamped ts (l .stamp)) (Bad BadLevel) (pick (clash a l) (Bad Together) Nothing))
+faultOf ts none l = firstFault l (stamped ts (l .stamp))
+faultOf ts (line a) l = laterFault a l (stamped ts (l .stamp))
 
 -- no line has a fault
 unfoldable pub Faultless : List Record → Before → List Level → Type 0

@@ -24,13 +24,13 @@ use Rattle.level.proofs.Theorems.{level-length}
 use Rattle.capture.specs.declared.Fault.{Fault}
 use Rattle.capture.specs.declared.Fault.the-variants.{Nothing, Bad}
 use Rattle.capture.specs.Taken.{takenOf, stamped}
-use Rattle.capture.specs.Captures.{spelledLevels, Before, none, line, lastOf, faultOf, Faultless, Begins, noLevel, faulty}
+use Rattle.capture.specs.Captures.{spelledLevels, Before, none, line, lastOf, firstFault, laterFault, faultOf, Faultless, Begins, noLevel, faulty}
 use Rattle.capture.specs.OneByOne.{records}
 use Rattle.capture.proofs.OneMore.{last-snoc, length-snoc, begins-none, begins-snoc, begins-whole}
 use Rattle.capture.proofs.Decoding.{not-back}
 use Rattle.judge.specs.declared.Reach.{Reach}
 use Rattle.judge.specs.declared.CheckedLevels.{CheckedLevels}
-use Rattle.judge.specs.Checking.{firstFault, laterFault, Ahead, Reaches, LevelsChecked, usable, bad, ChecksLevels}
+use Rattle.judge.specs.Checking.{Ahead, Reaches, LevelsChecked, usable, bad, ChecksLevels}
 
 -- ---- the lines so far, from the first one, a
 pub record Upto (ts : List Record) (text : List ℕ) (a last : Level) (at number : ℕ) : Type 0 where

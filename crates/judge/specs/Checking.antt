@@ -3,20 +3,16 @@ use Prim.Native.Nat.{ℕ, _≤_, _<_}
 use mathlib.Core.Path.{_≡_}
 use mathlib.Core.Bool.{Bool, false}
 use mathlib.Core.List.{List, _∷_}
-use lib.Dec.{ltb, leb}
+use lib.Dec.{leb}
 use lib.ListN.{length}
 use Rattle.law.specs.Words.{pick, Rising}
 use Rattle.record.specs.declared.Board.{Board}
 use Rattle.record.specs.declared.Record.{Record}
 use Rattle.record.specs.declared.LevelsAnswer.{LevelsAnswer}
-use Rattle.record.specs.declared.LevelsAnswer.the-variants.{BadLevel, Together}
 use Rattle.line.specs.Boards.{spelledBoard}
 use Rattle.text.specs.Texts.{Readable}
 use Rattle.level.specs.declared.Level.{Level}
 use Rattle.level.specs.Spelled.{spelledLevel}
-use Rattle.level.specs.Rest.{resting, clash}
-use Rattle.capture.specs.declared.Fault.{Fault}
-use Rattle.capture.specs.declared.Fault.the-variants.{Nothing, Bad}
 use Rattle.capture.specs.Taken.{taken, takenOf, stamped}
 use Rattle.capture.specs.Captures.{Captures, BadCapture}
 use Rattle.capture.specs.OneByOne.{From, records}
@@ -25,13 +21,6 @@ use Rattle.judge.specs.declared.CheckedLevels.{CheckedLevels}
 
 abbrev pub reachedBy : Record → ℕ → Bool
 reachedBy r t = pick (taken (r .event)) (leb t (r .stamp)) false
-
--- the faults of a line (`faultOf`), where it is known whether a record that is taken has its stamp
-abbrev pub firstFault : Level → Bool → Fault
-firstFault l hit = pick (resting l) (pick hit (Bad BadLevel) Nothing) (Bad BadLevel)
-
-abbrev pub laterFault : Level → Level → Bool → Fault
-laterFault a l hit = pick (ltb (l .stamp) (a .stamp)) (Bad BadLevel) (pick hit (Bad BadLevel) (pick (clash a l) (Bad Together) Nothing))
 
 -- From a place on the trace is records whose stamps rise: of those taken, the stamps from t on are those of ts, and none is below `free`.
 pub record Ahead (trace : List ℕ) (ts : List Record) (t at free : ℕ) : Type 0 where

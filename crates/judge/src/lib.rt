@@ -1,6 +1,7 @@
 // Both texts are judged before anything is written or played: the logger's trace whole, then the level text's length, then its first bad line (document 02, request 4/12).
 ghost use mathlib.Core.Path.{_≡_};
-ghost use Rattle.judge.specs.Checking.{reachedBy, firstFault, laterFault, Reaches, ChecksLevels};
+ghost use Rattle.capture.specs.Captures.{firstFault, laterFault};
+ghost use Rattle.judge.specs.Checking.{reachedBy, Reaches, ChecksLevels};
 ghost use Rattle.judge.specs.Judging.{Judging};
 use capture::Fault;
 use field::Cursor;

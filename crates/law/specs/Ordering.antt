@@ -1,4 +1,4 @@
--- Lists in order (`InOrder`): there is one such list and no other, a part of it is the part in order, and which element is its first.
+-- Lists in order (`InOrder`): there is one such list and no other, a part of it is the part in order, every sum over it stays, and which element is its first.
 use mathlib.Core.Path.{_≡_, refl, sym, ap, ap₂, subst, _∙_}
 use mathlib.Core.Bool.{Bool, true, false}
 use mathlib.Core.List.{List, [], _∷_, _++_}
@@ -21,10 +21,6 @@ module _ {A : Type 0} where
   head-or : A → List A → A
   head-or d [] = d
   head-or d (a ∷ l) = a
-
-  empty : List A → Bool
-  empty [] = true
-  empty (a ∷ l) = false
 
   cons-not-nil : (a : A) (l : List A) → a ∷ l ≡ [] → ⊥
   cons-not-nil a l e = let z = ap length e in omega arith
@@ -213,9 +209,6 @@ module _ {A : Type 0} (number : A → ℕ) where
 
   pub order-total : (f : A → ℕ) {xs m : List A} → InOrder number xs m → total f m ≡ total f xs
   order-total f {xs} {m} p = ap (total f) (order-one p (record { rising = sort-rising xs; keeps = λ n. sort-keeps n xs })) ∙ sort-total f xs
-
-  pub order-length : {xs m : List A} → InOrder number xs m → length m ≡ length xs
-  order-length {xs} {m} p = omega (arith, total-one m, total-one xs, order-total (λ (a : A). 1) p)
 
   -- ---- which is the first: one that is below all before it and not above any behind it
   next-keeps : (n : ℕ) (x : A) (front behind : List A) → All (λ (a : A). number x < number a) front →

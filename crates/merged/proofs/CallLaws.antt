@@ -1,4 +1,4 @@
--- The four ways in which the merge ends.
+-- Whether there is room for the text, its lines behind the board's, and the four ways in which the merge ends.
 use Prim.Native.Nat.{ℕ, _+_, _≤_, _<_}
 use native.Mathlib.Omega.{arith}
 use mathlib.Core.Path.{_≡_, sym, ap, ap₂, _∙_}
@@ -31,7 +31,7 @@ use Rattle.judge.specs.declared.Judged.{Judged}
 use Rattle.judge.specs.Judging.{Judging}
 use Rattle.judge.proofs.Usable.{Usable, refused-by, both-by}
 use Rattle.weave.specs.declared.Weave.{Weave}
-use Rattle.weave.specs.Weaving.{Left, Starts}
+use Rattle.weave.specs.Weaving.{Starts}
 use Rattle.weave.proofs.StartLaws.{levels-from, records-from}
 use Rattle.merged.specs.Merging.{longestText, Outputs, outputsOf, Wrote, wroteAs, unwritten, written, mergeLeft, Merges}
 use Rattle.merged.specs.Writing.{boardLine, putAt, CountsLevels, CountsTaken, HasRoom, WritesAll, WritesText}
@@ -98,20 +98,21 @@ settle {levels} {trace} {x} {e} j t h q = record {
   some = λ u. (j, h);
 }
 
-module _ {levels trace : List ℕ} {b : Board} {first : ℕ} {a : Level} {at : ℕ} {w : Weave} (u : Usable levels trace b first a at) (s : Starts levels trace a at first w) where
-  left : Left levels trace w (u .m)
-  left = s .starts b (u .rs) (u .ls) (u .m) (u .readable) (u .place) (u .captures) (u .behind) (u .in-order)
-
+module _ {levels trace : List ℕ} {b : Board} {first : ℕ} {a : Level} {at : ℕ} (u : Usable levels trace b first a at) where
   short : boardLine + length (spelledAll (u .m)) ≤ longestText
   short = omega (arith, trace-length b (u .m), text-fits (u .judges))
 
   -- the flag decides whether there is room for the text
   fits : {bytes : ℕ} {r : Bool} → HasRoom levels trace a at first bytes r → Decides r (length (spelledTrace b (u .m)) ≤ bytes)
-  fits v = decides-as (v .room (u .ls) (u .rs) (u .m) (levels-from (u .readable) (u .place) (u .captures) (u .behind)) (records-from (u .readable) (u .place) (u .captures) (u .behind)) (u .in-order) short) (λ h. omega (arith, trace-length b (u .m))) (λ h. omega (arith, trace-length b (u .m)))
+  fits v =
+      decides-as
+      (v .room (u .ls) (u .rs) (u .m) (levels-from (u .readable) (u .place) (u .captures) (u .behind)) (records-from (u .readable) (u .place) (u .captures) (u .behind)) (u .in-order) short)
+      (λ h. omega (arith, trace-length b (u .m))) (λ h. omega (arith, trace-length b (u .m)))
 
-  wrote : {out out′ : List ℕ} {c : ℕ} {t : Bool} → HasRoom levels trace a at first (length out) t → not t ≡ false → WritesText levels trace w b out out′ c →
+  wrote : {w : Weave} {out out′ : List ℕ} {c : ℕ} {t : Bool} → Starts levels trace a at first w → HasRoom levels trace a at first (length out) t → not t ≡ false → WritesText levels trace w b out out′ c →
       (c ≡ length (spelledTrace b (u .m))) × (out′ ≡ spelledTrace b (u .m) ++ drop (length (spelledTrace b (u .m))) out)
-  wrote v h p = p .writes (u .m) (u .readable .board) left (u .small) (passed (fits v) h)
+  wrote s v h p =
+      p .writes (u .m) (u .readable .board) (s .starts b (u .rs) (u .ls) (u .m) (u .readable) (u .place) (u .captures) (u .behind) (u .in-order)) (u .small) (passed (fits v) h)
 
 -- both texts are within their limits
 within : {levels trace : List ℕ} {b : Board} {m : List Record} → Judges levels trace (merged b m) → (length levels ≤ textLimit) × (length trace ≤ textLimit)
@@ -122,8 +123,8 @@ both-within {b = b} {first = first} {a = a} {at = at} g d = within (both-by g b 
 
 -- the text's length has room in the result
 pub length-small : {levels trace out out′ : List ℕ} {j : Judged} {b : Board} {first : ℕ} {a : Level} {at : ℕ} {w : Weave} {t : Bool} {c : ℕ} → Judging levels trace j → j ≡ Judged.Both b first a at →
-    Starts levels trace a at first w → HasRoom levels trace a at first (length out) t → not t ≡ false → WritesText levels trace w b out out′ c → c ≤ longestText
-length-small {b = b} {first = first} {a = a} {at = at} g d s v h p = let u = both-by g b first a at d in omega (arith, wrote u s v h p .0, text-fits (u .judges))
+    HasRoom levels trace a at first (length out) t → not t ≡ false → Starts levels trace a at first w → WritesText levels trace w b out out′ c → c ≤ longestText
+length-small {b = b} {first = first} {a = a} {at = at} g d v h s p = let u = both-by g b first a at d in omega (arith, wrote u s v h p .0, text-fits (u .judges))
 
 -- a refusal leaves the output alone
 refusal : (out old : List ℕ) {new : List ℕ} {n : ℕ} (a k f : ℕ) → (n ≡ a) × (new ≡ resultAfter a k 0 f old) → wroteAs n (outputsOf out new) ≡ unwritten a k f (outputsOf out old)
@@ -150,23 +151,23 @@ module _ {levels trace out old new : List ℕ} {n : ℕ} where
     unfolding mergeLeft
     merge-refused {a} {k} {f} d q = settle (refused a k f) (eq-eqb (length old) resultLength fit) (refused-by g a k f d) (refusal out old a k f q)
 
-    module _ {b : Board} {first : ℕ} {a : Level} {at : ℕ} {w : Weave} {t : Bool} (d : j ≡ Judged.Both b first a at) (s : Starts levels trace a at first w) (v : HasRoom levels trace a at first (length out) t) where
+    module _ {b : Board} {first : ℕ} {a : Level} {at : ℕ} {t : Bool} (d : j ≡ Judged.Both b first a at) (v : HasRoom levels trace a at first (length out) t) where
       pub merge-short : {i : ℕ} → not t ≡ true → i ≡ levelsAnswerNumber TooShort → (n ≡ i) × (new ≡ resultAfter i 0 0 0 old) → Merges levels trace (outputsOf out old) (wroteAs n (outputsOf out new))
       merge-short {i} h e q =
           let u = both-by g b first a at d in
           let text = spelledTrace b (u .m) in
-          by-room b (u .m) true (u .judges) (eq-eqb (length old) resultLength fit) (lt-ltb (length out) (length text) (above (length text) (length out) (λ z. fits u s v .fails (not-true t h) z)))
+          by-room b (u .m) true (u .judges) (eq-eqb (length old) resultLength fit) (lt-ltb (length out) (length text) (above (length text) (length out) (λ z. fits u v .fails (not-true t h) z)))
           (refusal out old i 0 0 q ∙ ap (λ (k : ℕ). unwritten k 0 0 (outputsOf out old)) e)
 
-      pub merge-written : {out′ : List ℕ} {c i : ℕ} → not t ≡ false → WritesText levels trace w b out out′ c → i ≡ answerNumber Settled → (n ≡ i) × (new ≡ resultAfter i 0 c 0 old) →
+      pub merge-written : {w : Weave} {out′ : List ℕ} {c i : ℕ} → not t ≡ false → Starts levels trace a at first w → WritesText levels trace w b out out′ c → i ≡ answerNumber Settled → (n ≡ i) × (new ≡ resultAfter i 0 c 0 old) →
           Merges levels trace (outputsOf out old) (wroteAs n (outputsOf out′ new))
       unfolding written
-      merge-written {out′} {c} {i} h p e q =
+      merge-written {w} {out′} {c} {i} h s p e q =
           let u = both-by g b first a at d in
           let text = spelledTrace b (u .m) in
           let z = wrote u s v h p in
           let put : out′ ≡ text ++ drop (length text) out = z .1 in
           let res : new ≡ resultAfter (answerNumber Settled) 0 (length text) 0 old = q .1 ∙ ap₂ (λ (x y : ℕ). resultAfter x 0 y 0 old) e (z .0) in
           let num : n ≡ answerNumber Settled = q .0 ∙ e in
-          by-room b (u .m) false (u .judges) (eq-eqb (length old) resultLength fit) (le-ltb (length out) (length text) (passed (fits u s v) h))
+          by-room b (u .m) false (u .judges) (eq-eqb (length old) resultLength fit) (le-ltb (length out) (length text) (passed (fits u v) h))
           (λ y. wroteAs (num y) (outputsOf (put y) (res y)))

@@ -1,12 +1,12 @@
 -- Where the two counts stand: what is still to count from here gives the whole. And that the lines of both texts together are those of the merged trace, in whatever order.
 use Prim.Native.Nat.{ℕ, _+_, _-_, _≤_, _<_}
 use native.Mathlib.Omega.{arith}
-use mathlib.Core.Path.{_≡_, refl, ap, _∙_}
+use mathlib.Core.Path.{_≡_, refl, ap}
 use mathlib.Core.Bool.{true, false}
 use mathlib.Core.List.{List, [], _∷_, _++_}
 use lib.ListN.{length, length-append}
 use Rattle.law.specs.Words.{filter, keep}
-use Rattle.law.specs.Ordering.{total, total-append, order-total}
+use Rattle.law.specs.Ordering.{total, total-append}
 use Rattle.record.specs.declared.Event.{Event}
 use Rattle.record.specs.declared.Record.{Record}
 use Rattle.field.specs.Reads.{Stands}
@@ -20,12 +20,11 @@ use Rattle.decode.specs.declared.Out.the-variants.{Nothing, One, Two}
 use Rattle.decode.specs.declared.bits.Bits.{Bits}
 use Rattle.decode.specs.declared.bits.Turn.{Turn}
 use Rattle.decode.specs.Bits.{eventsOf}
-use Rattle.decode.specs.Decoded.{turnOf, recordAt, recordsAt, decodedFrom, decodedBy, flashStart, wiresStart, flashOf, eepromOf}
-use Rattle.capture.specs.declared.Part.the-variants.{FlashEnds, EepromEnds, Lines}
-use Rattle.capture.specs.Taken.{partOf, taken, takenOf}
-use Rattle.capture.specs.Merge.{numberOf, Merged}
+use Rattle.decode.specs.Decoded.{turnOf, recordAt, recordsAt, decodedFrom, flashStart, wiresStart}
+use Rattle.capture.specs.Taken.{taken, takenOf}
+use Rattle.capture.specs.Merge.{Merged}
 use Rattle.capture.specs.OneByOne.{From, records, levels}
-use Rattle.capture.proofs.Parts.{parts-total}
+use Rattle.capture.proofs.Parts.{merged-total}
 use Rattle.capture.proofs.OneByOne.{some-record, some-level, took, not-none, at-end}
 use Rattle.merged.specs.Writing.{CountsLevels, CountsTaken}
 
@@ -152,20 +151,12 @@ module _ {text : List ℕ} {from at sum : ℕ} (c : CountingTaken text from at s
 -- ---- both
 -- the merged trace's lines are those of both texts
 pub merged-length : (a : Level) (ls : List Level) (rs m : List Record) → Merged (a ∷ ls) rs m → length (spelledAll m) ≡ given flashStart a ls + given wiresStart a ls + takes rs
-unfolding decodedBy
 merged-length a ls rs m p =
-    let flash = flashOf (a ∷ ls) in
-    let eeprom = eepromOf (a ∷ ls) in
     omega (
       arith,
+      merged-total lineLength a ls rs m p,
       all-total m,
-      order-total numberOf lineLength p,
-      total-append lineLength flash (eeprom ++ (partOf FlashEnds rs ++ (partOf EepromEnds rs ++ partOf Lines rs))),
-      total-append lineLength eeprom (partOf FlashEnds rs ++ (partOf EepromEnds rs ++ partOf Lines rs)),
-      total-append lineLength (partOf FlashEnds rs) (partOf EepromEnds rs ++ partOf Lines rs),
-      total-append lineLength (partOf EepromEnds rs) (partOf Lines rs),
-      parts-total lineLength rs,
-      all-total (takenOf rs),
       all-total (decodedFrom flashStart a ls),
       all-total (decodedFrom wiresStart a ls),
+      all-total (takenOf rs),
     )

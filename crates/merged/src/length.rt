@@ -1,4 +1,4 @@
-// How long the lines of the merged text are, counted part by part: that is quicker than to write a line and see, and in whatever order the records come.
+// How long the lines of the merged text are, counted part by part, with nothing spelled: no order of the records is needed for it.
 ghost use mathlib.Core.Path.{_≡_};
 ghost use Prim.Native.Nat.{_*_, _≤_};
 ghost use lib.ListN.{length};

@@ -23,7 +23,7 @@ const BOARD_LINE: usize = 13;
 // No merged text is longer: the board's line, and as many of the longest lines as both texts can give.
 pub const ROOM: usize = 540553;
 
-// Whether so many bytes have room for the text. Lines are only counted where they may not have it. No order is asked: of each text every line is read once.
+// Whether so many bytes have room for the text. Lines are only counted where they may not have it. No order is asked: behind the first line of each text every line is read once.
 fn has_room(levels: &[u8], trace: &[u8], a: Level, at: usize, first: usize, bytes: usize) -> bool
     requires { ⌜ (length (now levels) ≤ textLimit) × (length (now trace) ≤ textLimit) ⌝ }
     ensures { λ r. ⌜ HasRoom (now (levels .entry)) (now (trace .entry)) a at first bytes r ⌝ }
@@ -108,7 +108,6 @@ pub fn merge(levels: &[u8], trace: &[u8], output: &mut [u8], result: &mut [u8]) 
             return buffers::put_answer(result, answer, line, 0, field);
         }
         Judged::Both(board, first, a, at) => {
-            let start = weave::start_weave(levels, trace, a, at, first);
             if !has_room(levels, trace, a, at, first, output.len()) {
                 return buffers::put_answer(
                     result,
@@ -118,6 +117,7 @@ pub fn merge(levels: &[u8], trace: &[u8], output: &mut [u8], result: &mut [u8]) 
                     0,
                 );
             }
+            let start = weave::start_weave(levels, trace, a, at, first);
             let length = write_text(levels, trace, start, board, output);
             return buffers::put_answer(
                 result,

@@ -35,11 +35,8 @@ returns-2 c = merge-refused (c .before .before .before .before .before .before .
 enum-known-judged-2 : tie.Need-enum-known-judged-2
 enum-known-judged-2 c = search needs
 
-start-weave-requires : tie.Need-start-weave-requires
-start-weave-requires c κs = search needs
-
 has-room-requires : tie.Need-has-room-requires
-has-room-requires c κs = both-within (c .before .before .before .before .judge .ensures) (c .before .before .judged2 .given .1)
+has-room-requires c κs = both-within (c .before .before .before .judge .ensures) (c .before .judged2 .given .1)
 
 levels-answer-number-requires : tie.Need-levels-answer-number-requires
 levels-answer-number-requires c κs = search needs
@@ -51,7 +48,10 @@ same-length-3 : tie.Need-same-length-3
 same-length-3 c = search needs
 
 returns-3 : tie.Need-returns-3
-returns-3 c = merge-short (c .before .before .before .before .before .before .before .before .before .before .before .before .if1 .left) (c .before .before .before .before .before .before .before .before .before .before .before .judge .ensures) (c .before .before .before .before .before .before .before .before .before .judged2 .given .1) (c .before .before .before .before .before .before .before .start-weave .ensures) (c .before .before .before .before .before .before .has-room .ensures) (c .before .before .before .before .before .if2 .taken) (c .before .before .before .levels-answer-number .ensures) (c .before .before .put-answer3 .ensures)
+returns-3 c = merge-short (c .before .before .before .before .before .before .before .before .before .before .before .if1 .left) (c .before .before .before .before .before .before .before .before .before .before .judge .ensures) (c .before .before .before .before .before .before .before .before .judged2 .given .1) (c .before .before .before .before .before .before .has-room .ensures) (c .before .before .before .before .before .if2 .taken) (c .before .before .before .levels-answer-number .ensures) (c .before .before .put-answer3 .ensures)
+
+start-weave-requires : tie.Need-start-weave-requires
+start-weave-requires c κs = search needs
 
 write-text-requires : tie.Need-write-text-requires
 write-text-requires c κs = search needs
@@ -60,7 +60,7 @@ answer-number-requires-2 : tie.Need-answer-number-requires-2
 answer-number-requires-2 c κs = search needs
 
 cast-put-answer : tie.Need-cast-put-answer
-cast-put-answer c = omega (arith, length-small (c .before .before .before .before .before .before .before .before .before .before .before .before .judge .ensures) (c .before .before .before .before .before .before .before .before .before .before .judged2 .given .1) (c .before .before .before .before .before .before .before .before .start-weave .ensures) (c .before .before .before .before .before .before .before .has-room .ensures) (c .before .before .before .before .before .before .if2 .left) (c .before .before .before .before .write-text .ensures))
+cast-put-answer c = omega (arith, length-small (c .before .before .before .before .before .before .before .before .before .before .before .before .judge .ensures) (c .before .before .before .before .before .before .before .before .before .before .judged2 .given .1) (c .before .before .before .before .before .before .before .before .has-room .ensures) (c .before .before .before .before .before .before .before .if2 .left) (c .before .before .before .before .before .before .start-weave .ensures) (c .before .before .before .before .write-text .ensures))
 
 put-answer-requires-4 : tie.Need-put-answer-requires-4
 put-answer-requires-4 c κs = search needs
@@ -72,7 +72,7 @@ same-length-5 : tie.Need-same-length-5
 same-length-5 c = search needs
 
 returns-4 : tie.Need-returns-4
-returns-4 c = merge-written (c .before .before .before .before .before .before .before .before .before .before .before .before .before .before .before .before .if1 .left) (c .before .before .before .before .before .before .before .before .before .before .before .before .before .before .before .judge .ensures) (c .before .before .before .before .before .before .before .before .before .before .before .before .before .judged2 .given .1) (c .before .before .before .before .before .before .before .before .before .before .before .start-weave .ensures) (c .before .before .before .before .before .before .before .before .before .before .has-room .ensures) (c .before .before .before .before .before .before .before .before .before .if2 .left) (c .before .before .before .before .before .before .before .write-text .ensures) (c .before .before .before .answer-number2 .ensures) (c .before .before .put-answer4 .ensures)
+returns-4 c = merge-written (c .before .before .before .before .before .before .before .before .before .before .before .before .before .before .before .before .if1 .left) (c .before .before .before .before .before .before .before .before .before .before .before .before .before .before .before .judge .ensures) (c .before .before .before .before .before .before .before .before .before .before .before .before .before .judged2 .given .1) (c .before .before .before .before .before .before .before .before .before .before .before .has-room .ensures) (c .before .before .before .before .before .before .before .before .before .before .if2 .left) (c .before .before .before .before .before .before .before .before .before .start-weave .ensures) (c .before .before .before .before .before .before .before .write-text .ensures) (c .before .before .before .answer-number2 .ensures) (c .before .before .put-answer4 .ensures)
 
 pub merge-spec : {M : Type 1} → statement M
 merge-spec =
@@ -88,12 +88,12 @@ merge-spec =
     same-length-2
     returns-2
     enum-known-judged-2
-    start-weave-requires
     has-room-requires
     levels-answer-number-requires
     put-answer-requires-3
     same-length-3
     returns-3
+    start-weave-requires
     write-text-requires
     answer-number-requires-2
     cast-put-answer
