@@ -23,16 +23,16 @@ module _ (vs ms : List ℕ) (i : ℕ) (same : length ms ≡ length vs) where
   cut h = rw (add-one, drop-cons vs i 0 (omega arith), drop-cons ms i 0 (omega arith))
 
   -- the flag so far, with the places from i on, says whether all are clear; so does the flag with the next place, and the rest
-  pub clear-on : (ok r : Bool) → i < length vs → r ≡ pick ok (eqb (bit_and (get_or vs i 0) (get_or ms i 0)) 0) false →
+  pub clear_on : (ok r : Bool) → i < length vs → r ≡ pick ok (eqb (bit_and (get_or vs i 0) (get_or ms i 0)) 0) false →
       pick r (clear (drop (i + 1) vs) (drop (i + 1) ms)) false ≡ pick ok (clear (drop i vs) (drop i ms)) false
-  clear-on true r h e = ap (λ (t : Bool). pick t (clear (drop (i + 1) vs) (drop (i + 1) ms)) false) e ∙ sym (cut h)
-  clear-on false r h e = ap (λ (t : Bool). pick t (clear (drop (i + 1) vs) (drop (i + 1) ms)) false) e
+  clear_on true r h e = ap (λ (t : Bool). pick t (clear (drop (i + 1) vs) (drop (i + 1) ms)) false) e ∙ sym (cut h)
+  clear_on false r h e = ap (λ (t : Bool). pick t (clear (drop (i + 1) vs) (drop (i + 1) ms)) false) e
 
   -- no place is left
-  pub clear-end : (ok : Bool) → length vs ≤ i → pick ok (clear (drop i vs) (drop i ms)) false ≡ ok
+  pub clear_end : (ok : Bool) → length vs ≤ i → pick ok (clear (drop i vs) (drop i ms)) false ≡ ok
   unfolding clear
-  clear-end true h = ap (λ (l : List ℕ). clear l (drop i ms)) (drop_of_length-le vs {i = i} h)
-  clear-end false h = refl
+  clear_end true h = ap (λ (l : List ℕ). clear l (drop i ms)) (drop_of_length-le vs {i = i} h)
+  clear_end false h = refl
 
 -- at every place, also past the ends
 pub clear_at : (vs ms : List ℕ) → clear vs ms ≡ true → (k : ℕ) → bit_and (get_or vs k 0) (get_or ms k 0) ≡ 0
@@ -51,10 +51,10 @@ at_clear (v ∷ vs) (m ∷ ms) h =
 
 -- so the test says exactly that a doubtful bit is 0 in the value
 module _ (i : Image) where
-  pub clear-clean : clear i.values i.masks ≡ true → Clean i
+  pub clear_clean : clear i.values i.masks ≡ true → Clean i
   unfolding Clean Disjoint
-  clear-clean e = clear_at i.values i.masks e
+  clear_clean e = clear_at i.values i.masks e
 
-  pub clean-clear : Clean i → clear i.values i.masks ≡ true
+  pub clean_clear : Clean i → clear i.values i.masks ≡ true
   unfolding Clean Disjoint
-  clean-clear h = at_clear i.values i.masks h
+  clean_clear h = at_clear i.values i.masks h

@@ -2,12 +2,12 @@
 // A buffer of another length than the documents give it is left alone.
 ghost use Rattle.std.specs.Prelude.{◌≡◌, [], ◌∷◌, ◌+◌, ◌≤◌, length, replicate};
 ghost use Rattle.std.proofs.lemmas.List.Edits.{sets};
-ghost use Rattle.record.specs.Replies.{replyBytes};
+ghost use Rattle.record.specs.Replies.{reply_bytes};
 ghost use Rattle.record.specs.Word.{word};
 ghost use Rattle.image.specs.Image.{image_of, spans};
-ghost use Rattle.image.specs.Images.{imagesOf, keptBytes};
-ghost use Rattle.buffers.specs.Buffers.{buffersOf, clear, fitImages, fit, resultAfter, planResultAfter};
-ghost use Rattle.buffers.specs.Put.{repliesWith};
+ghost use Rattle.image.specs.Images.{images_of, kept_bytes};
+ghost use Rattle.buffers.specs.Buffers.{buffers_of, clear, fit_images, fit, result_after, plan_result_after};
+ghost use Rattle.buffers.specs.Put.{replies_with};
 
 use record::{Chip, Match, Reply};
 
@@ -21,7 +21,7 @@ pub fn fits_all(
     replies: &[u8],
     res: &[u8],
 ) -> bool
-    ensures { result ≡ fit (buffersOf flash.now flash_mask.now eeprom.now eeprom_mask.now times.now replies.now res.now) }
+    ensures { result ≡ fit (buffers_of flash.now flash_mask.now eeprom.now eeprom_mask.now times.now replies.now res.now) }
 {
     if times.len() != times::TIMES {
         return false;
@@ -40,7 +40,7 @@ pub fn fits_images(
     eeprom_mask: &[u8],
     res: &[u8],
 ) -> bool
-    ensures { result ≡ fitImages (imagesOf flash.now flash_mask.now eeprom.now eeprom_mask.now) res.now }
+    ensures { result ≡ fit_images (images_of flash.now flash_mask.now eeprom.now eeprom_mask.now) res.now }
 {
     if !image_fits(Chip::Flash, flash, flash_mask) {
         return false;
@@ -59,7 +59,7 @@ pub fn fits_images(
 
 // As many values and masks as bytes are kept of the chip.
 fn image_fits(chip: Chip, values: &[u8], masks: &[u8]) -> bool
-    ensures { result ≡ spans (keptBytes chip) (image_of values.now masks.now) }
+    ensures { result ≡ spans (kept_bytes chip) (image_of values.now masks.now) }
 {
     let kept = image::kept_bytes(chip);
     if values.len() != kept {
@@ -84,7 +84,7 @@ fn is_clear(values: &[u8], masks: &[u8]) -> bool
 
 // The result: the answer's number, a line or a stamp, a count, the number of a line's first bad field.
 pub fn put_result(res: &mut [u8], answer: u32, number: usize, count: u32, field: u32)
-    ensures { res.new ≡ resultAfter answer number count field res.old }
+    ensures { res.new ≡ result_after answer number count field res.old }
 {
     if res.len() != record::RESULT {
         return;
@@ -97,7 +97,7 @@ pub fn put_result(res: &mut [u8], answer: u32, number: usize, count: u32, field:
 
 // The same, for a call that ends with it: the answer is given back.
 pub fn put_answer(res: &mut [u8], answer: u32, number: usize, count: u32, field: u32) -> u32
-    ensures { (result ≡ answer) × (res.new ≡ resultAfter answer number count field res.old) }
+    ensures { (result ≡ answer) × (res.new ≡ result_after answer number count field res.old) }
 {
     put_result(res, answer, number, count, field);
     answer
@@ -105,7 +105,7 @@ pub fn put_answer(res: &mut [u8], answer: u32, number: usize, count: u32, field:
 
 // A plan's result: the answer's number, and how many entries the list has.
 pub fn put_plan_result(res: &mut [u8], answer: u32, number: u32)
-    ensures { res.new ≡ planResultAfter answer number res.old }
+    ensures { res.new ≡ plan_result_after answer number res.old }
 {
     if res.len() != record::PLAN_RESULT {
         return;
@@ -127,7 +127,7 @@ pub fn clear_all(s: &mut [u8])
 
 // The reply of record `number`, counted from 0.
 pub fn put_reply(replies: &mut [u8], number: usize, reply: Reply, m: Match)
-    ensures { replies.new ≡ repliesWith number (replyBytes reply m) replies.old }
+    ensures { replies.new ≡ replies_with number (reply_bytes reply m) replies.old }
 {
     if record::REPLY_PLACES <= number {
         return;

@@ -4,11 +4,11 @@ use Rattle.record.specs.declared.Board.{Board}
 use Rattle.record.specs.declared.Record.{Record}
 use Rattle.controls.specs.declared.Controls.{Controls}
 use Rattle.image.specs.Images.{Images}
-use Rattle.times.specs.Put.{timesWith}
+use Rattle.times.specs.Put.{times_with}
 use Rattle.machine.specs.Replies.{compared}
 use Rattle.machine.specs.Turn.{turn_of}
-use Rattle.buffers.specs.Put.{repliesWith}
-use Rattle.call.specs.Play.{replyLine, twos}
+use Rattle.buffers.specs.Put.{replies_with}
+use Rattle.call.specs.Play.{reply_line, twos}
 
 pub record Desk : Type 0 where
   pub controls : Controls
@@ -18,16 +18,16 @@ pub record Desk : Type 0 where
   pub number : ℕ
   pub count : ℕ
 
-abbrev pub deskOf : Controls → Images → List ℕ → List ℕ → ℕ → ℕ → Desk
-deskOf c x times replies number count =
+abbrev pub desk_of : Controls → Images → List ℕ → List ℕ → ℕ → ℕ → Desk
+desk_of c x times replies number count =
     record { controls = c; images = x; times = times; replies = replies; number = number; count = count }
 
-unfoldable pub stepDesk : Board → Desk → Record → Desk
-stepDesk b d r =
+unfoldable pub step_desk : Board → Desk → Record → Desk
+step_desk b d r =
     let t = turn_of b d.controls d.images r in
-    deskOf t.controls t.images (timesWith r.stamp t.touched d.times) (repliesWith d.number (replyLine r t.reply) d.replies)
+    desk_of t.controls t.images (times_with r.stamp t.touched d.times) (replies_with d.number (reply_line r t.reply) d.replies)
     (d.number + 1) (d.count + twos (compared r.event t.reply))
 
-unfoldable pub runDesk : Board → List Record → Desk → Desk
-runDesk b [] d = d
-runDesk b (r ∷ rs) d = runDesk b rs (stepDesk b d r)
+unfoldable pub run_desk : Board → List Record → Desk → Desk
+run_desk b [] d = d
+run_desk b (r ∷ rs) d = run_desk b rs (step_desk b d r)

@@ -13,18 +13,18 @@ use Rattle.text.specs.declared.buses.Bus.TheVariants.{Closed, Open, Spoilt}
 use Rattle.text.specs.declared.buses.Moved.{Moved}
 use Rattle.text.specs.declared.buses.Moved.TheVariants.{To}
 use Rattle.text.specs.declared.buses.Moves.{Moves}
-use Rattle.text.specs.Buses.{flashBus, eepromBus, withFlash, withEeprom, after, Possible}
-use Rattle.capture.specs.Taken.{flashMovers, eepromMovers}
+use Rattle.text.specs.Buses.{flash_bus, eeprom_bus, with_flash, with_eeprom, after, Possible}
+use Rattle.capture.specs.Taken.{flash_movers, eeprom_movers}
 
-abbrev pub flashTo : Bus → Event → Moved
-flashTo x (Flash e) = flashBus x e
-flashTo x (Eeprom e) = To x
-flashTo x (Line e) = To x
+abbrev pub flash_to : Bus → Event → Moved
+flash_to x (Flash e) = flash_bus x e
+flash_to x (Eeprom e) = To x
+flash_to x (Line e) = To x
 
-abbrev pub eepromTo : Bus → Event → Moved
-eepromTo x (Flash e) = To x
-eepromTo x (Eeprom e) = eepromBus x e
-eepromTo x (Line e) = To x
+abbrev pub eeprom_to : Bus → Event → Moved
+eeprom_to x (Flash e) = To x
+eeprom_to x (Eeprom e) = eeprom_bus x e
+eeprom_to x (Line e) = To x
 
 -- each record is possible, from the bus as it stands
 unfoldable pub Runs : (Bus → Event → Moved) → Bus → List Record → Type 0
@@ -35,41 +35,41 @@ abbrev buses : Bus → Bus → Moves
 buses x y = Moves.To (record { flash = x; eeprom = y })
 
 abbrev Apart : List Record → Type 0
-Apart m = (x y : Bus) → Runs flashTo x (flashMovers m) → Runs eepromTo y (eepromMovers m) → Possible (after (buses x y) m)
+Apart m = (x y : Bus) → Runs flash_to x (flash_movers m) → Runs eeprom_to y (eeprom_movers m) → Possible (after (buses x y) m)
 
-end-flash : (x : Bus) → flashBus x flash.End ≡ To x
-end-flash Closed = refl
-end-flash Open = refl
-end-flash Spoilt = refl
+end_flash : (x : Bus) → flash_bus x flash.End ≡ To x
+end_flash Closed = refl
+end_flash Open = refl
+end_flash Spoilt = refl
 
-end-eeprom : (x : Bus) → eepromBus x eeprom.End ≡ To x
-end-eeprom Closed = refl
-end-eeprom Open = refl
-end-eeprom Spoilt = refl
+end_eeprom : (x : Bus) → eeprom_bus x eeprom.End ≡ To x
+end_eeprom Closed = refl
+end_eeprom Open = refl
+end_eeprom Spoilt = refl
 
 module _ (m : List Record) (h : Apart m) where
-  by-flash : (x y : Bus) (k : Moved) (z : Bus) → k ≡ To z → Runs flashTo z (flashMovers m) → Runs eepromTo y (eepromMovers m) →
-      Possible (after (withFlash (record { flash = x; eeprom = y }) k) m)
-  by-flash x y k z e f g =
-      subst (λ (j : Moved). Possible (after (withFlash (record { flash = x; eeprom = y }) j) m)) (sym e) (h z y f g)
+  by_flash_lem : (x y : Bus) (k : Moved) (z : Bus) → k ≡ To z → Runs flash_to z (flash_movers m) → Runs eeprom_to y (eeprom_movers m) →
+      Possible (after (with_flash (record { flash = x; eeprom = y }) k) m)
+  by_flash_lem x y k z e f g =
+      subst (λ (j : Moved). Possible (after (with_flash (record { flash = x; eeprom = y }) j) m)) (sym e) (h z y f g)
 
-  by-eeprom : (x y : Bus) (k : Moved) (z : Bus) → k ≡ To z → Runs flashTo x (flashMovers m) → Runs eepromTo z (eepromMovers m) →
-      Possible (after (withEeprom (record { flash = x; eeprom = y }) k) m)
-  by-eeprom x y k z e f g =
-      subst (λ (j : Moved). Possible (after (withEeprom (record { flash = x; eeprom = y }) j) m)) (sym e) (h x z f g)
+  by_eeprom_lem : (x y : Bus) (k : Moved) (z : Bus) → k ≡ To z → Runs flash_to x (flash_movers m) → Runs eeprom_to z (eeprom_movers m) →
+      Possible (after (with_eeprom (record { flash = x; eeprom = y }) k) m)
+  by_eeprom_lem x y k z e f g =
+      subst (λ (j : Moved). Possible (after (with_eeprom (record { flash = x; eeprom = y }) j) m)) (sym e) (h x z f g)
 
   more : (v : Event) (t : ℕ) → Apart (record { stamp = t; event = v } ∷ m)
   unfolding after filter keep Runs
-  more (Flash flash.Select) t x y f g = by-flash x y (flashBus x flash.Select) f.0 f.1 f.2 g
-  more (Flash (flash.Byte si so)) t x y f g = by-flash x y (flashBus x (flash.Byte si so)) f.0 f.1 f.2 g
-  more (Flash flash.Cut) t x y f g = by-flash x y (flashBus x flash.Cut) f.0 f.1 f.2 g
-  more (Flash flash.Deselect) t x y f g = by-flash x y (flashBus x flash.Deselect) f.0 f.1 f.2 g
-  more (Flash flash.End) t x y f g = by-flash x y (flashBus x flash.End) x (end-flash x) f g
-  more (Eeprom eeprom.Start) t x y f g = by-eeprom x y (eepromBus y eeprom.Start) g.0 g.1 f g.2
-  more (Eeprom (eeprom.Byte b a)) t x y f g = by-eeprom x y (eepromBus y (eeprom.Byte b a)) g.0 g.1 f g.2
-  more (Eeprom eeprom.Cut) t x y f g = by-eeprom x y (eepromBus y eeprom.Cut) g.0 g.1 f g.2
-  more (Eeprom eeprom.Stop) t x y f g = by-eeprom x y (eepromBus y eeprom.Stop) g.0 g.1 f g.2
-  more (Eeprom eeprom.End) t x y f g = by-eeprom x y (eepromBus y eeprom.End) y (end-eeprom y) f g
+  more (Flash flash.Select) t x y f g = by_flash_lem x y (flash_bus x flash.Select) f.0 f.1 f.2 g
+  more (Flash (flash.Byte si so)) t x y f g = by_flash_lem x y (flash_bus x (flash.Byte si so)) f.0 f.1 f.2 g
+  more (Flash flash.Cut) t x y f g = by_flash_lem x y (flash_bus x flash.Cut) f.0 f.1 f.2 g
+  more (Flash flash.Deselect) t x y f g = by_flash_lem x y (flash_bus x flash.Deselect) f.0 f.1 f.2 g
+  more (Flash flash.End) t x y f g = by_flash_lem x y (flash_bus x flash.End) x (end_flash x) f g
+  more (Eeprom eeprom.Start) t x y f g = by_eeprom_lem x y (eeprom_bus y eeprom.Start) g.0 g.1 f g.2
+  more (Eeprom (eeprom.Byte b a)) t x y f g = by_eeprom_lem x y (eeprom_bus y (eeprom.Byte b a)) g.0 g.1 f g.2
+  more (Eeprom eeprom.Cut) t x y f g = by_eeprom_lem x y (eeprom_bus y eeprom.Cut) g.0 g.1 f g.2
+  more (Eeprom eeprom.Stop) t x y f g = by_eeprom_lem x y (eeprom_bus y eeprom.Stop) g.0 g.1 f g.2
+  more (Eeprom eeprom.End) t x y f g = by_eeprom_lem x y (eeprom_bus y eeprom.End) y (end_eeprom y) f g
   more (Line e) t x y f g = h x y f g
 
 pub apart : (m : List Record) → Apart m

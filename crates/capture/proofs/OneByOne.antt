@@ -7,10 +7,10 @@ use lib.ListN.{length, drop, length-append, length-drop}
 use lib.Seq.{drop-drop, drop-append_seam}
 use Rattle.law.specs.Words.{All}
 use Rattle.field.specs.Reads.{Stands}
-use Rattle.field.proofs.Reading.{Got, stands-length}
+use Rattle.field.proofs.Reading.{Got, stands_length}
 use Rattle.line.specs.Records.{spelled}
 use Rattle.text.proofs.OneReading as text
-use Rattle.level.proofs.Theorems.{level-length}
+use Rattle.level.proofs.Theorems.{level_length}
 use Rattle.capture.specs.OneByOne.{Lines, From, records, levels}
 
 -- each is spelled in one byte at least
@@ -22,7 +22,7 @@ module _ {A : Type 0} {k : Lines A} {text : List ℕ} {at : ℕ} where
   pub took : Some k → {x : A} {p : ℕ} (xs : List A) → From k text at xs → Got k.spell k.Ok text at x p → (rest : List A) × From k text p rest × (xs ≡ x ∷ rest)
   unfolding All
   took some {x} {p} [] f g =
-      absurd (omega (arith, some.some x g.ok, stands-length text (k.spell x) at g.stands (some.some x g.ok), ap length (f.is ∙ k.nil), length-drop at text))
+      absurd (omega (arith, some.some x g.ok, stands_length text (k.spell x) at g.stands (some.some x g.ok), ap length (f.is ∙ k.nil), length-drop at text))
   took some {x} {p} (y ∷ xs) f g =
       let is = f.is ∙ k.cons y xs in
       let same = g.only y f.fits.0 (record { rest = k.all xs; is = is }) in
@@ -44,23 +44,23 @@ module _ {A : Type 0} {k : Lines A} {text : List ℕ} {at : ℕ} where
   not_none (x ∷ xs) f h n = n x f.fits.0 (record { rest = k.all xs; is = f.is ∙ k.cons x xs })
 
   -- and none where it has
-  pub at-end : Some k → (xs : List A) → From k text at xs → length text ≤ at → xs ≡ []
+  pub at_end : Some k → (xs : List A) → From k text at xs → length text ≤ at → xs ≡ []
   unfolding All
-  at-end some [] f h = refl
-  at-end some (x ∷ xs) f h =
+  at_end some [] f h = refl
+  at_end some (x ∷ xs) f h =
       absurd (omega (arith, some.some x f.fits.0, ap length (f.is ∙ k.cons x xs), length-append (k.spell x) (k.all xs), length-drop at text))
 
 -- the place behind a line
 pub behind : {A : Type 0} {k : Lines A} → Some k → {text : List ℕ} {at : ℕ} {x : A} {p : ℕ} → Got k.spell k.Ok text at x p → (at < p) × (p ≤ length text)
 behind {k = k} some {text} {at} {x} g =
     let s = some.some x g.ok in
-    let z = stands-length text (k.spell x) at g.stands s in
+    let z = stands_length text (k.spell x) at g.stands s in
     (omega (arith, g.next), omega (arith, g.next))
 
-pub some-record : Some records
+pub some_record : Some records
 unfolding records
-some-record = record { some = λ r o. text.some r o }
+some_record = record { some = λ r o. text.some r o }
 
 pub some_level : Some levels
 unfolding levels
-some_level = record { some = λ l o. omega (arith, level-length l) }
+some_level = record { some = λ l o. omega (arith, level_length l) }

@@ -11,7 +11,7 @@ use Rattle.record.specs.declared.Record.{Record}
 use Rattle.level.specs.declared.Level.{Level}
 use Rattle.capture.specs.declared.Fault.TheVariants.{Nothing, Bad}
 use Rattle.capture.specs.Taken.{taken_of, stamped}
-use Rattle.capture.specs.Captures.{none, line, faultOf}
+use Rattle.capture.specs.Captures.{none, line, fault_of}
 use Rattle.law.specs.Words.{filter, keep}
 
 -- a level line by its stamp, then CS, SCK, SI, SO, HOLD, SCL, SDA
@@ -29,73 +29,73 @@ abbrev selected : Level
 selected = at 2 false false false false true true true
 
 -- the first line, at rest; with CS low; with SCK high; with the stamp of an `end`; with that of a record that is passed over
-first_good : faultOf (taken_of logged) none rest ≡ Nothing
-unfolding faultOf stamped filter keep
+first_good : fault_of (taken_of logged) none rest ≡ Nothing
+unfolding fault_of stamped filter keep
 first_good = refl
 
-first-selected : faultOf (taken_of logged) none selected ≡ Bad BadLevel
-unfolding faultOf stamped filter keep
-first-selected = refl
+first_selected : fault_of (taken_of logged) none selected ≡ Bad BadLevel
+unfolding fault_of stamped filter keep
+first_selected = refl
 
-first-clocked : faultOf (taken_of logged) none (at 1 true true false false true true true) ≡ Bad BadLevel
-unfolding faultOf stamped filter keep
-first-clocked = refl
+first_clocked : fault_of (taken_of logged) none (at 1 true true false false true true true) ≡ Bad BadLevel
+unfolding fault_of stamped filter keep
+first_clocked = refl
 
-first-tied : faultOf (taken_of logged) none (at 7 true false false false true true true) ≡ Bad BadLevel
-unfolding faultOf stamped filter keep
-first-tied = refl
+first_tied : fault_of (taken_of logged) none (at 7 true false false false true true true) ≡ Bad BadLevel
+unfolding fault_of stamped filter keep
+first_tied = refl
 
-first-passed : faultOf (taken_of logged) none (at 5 true false false false true true true) ≡ Nothing
-unfolding faultOf stamped filter keep
-first-passed = refl
+first_passed : fault_of (taken_of logged) none (at 5 true false false false true true true) ≡ Nothing
+unfolding fault_of stamped filter keep
+first_passed = refl
 
 -- a later line: the same stamp again, a stamp that falls, the `lock`'s, where nothing moves
-again : faultOf (taken_of logged) (line selected) selected ≡ Nothing
-unfolding faultOf stamped filter keep
+again : fault_of (taken_of logged) (line selected) selected ≡ Nothing
+unfolding fault_of stamped filter keep
 again = refl
 
-falling : faultOf (taken_of logged) (line selected) rest ≡ Bad BadLevel
-unfolding faultOf stamped filter keep
+falling : fault_of (taken_of logged) (line selected) rest ≡ Bad BadLevel
+unfolding fault_of stamped filter keep
 falling = refl
 
-tied : faultOf (taken_of logged) (line selected) (at 9 false false false false true true true) ≡ Bad BadLevel
-unfolding faultOf stamped filter keep
+tied : fault_of (taken_of logged) (line selected) (at 9 false false false false true true true) ≡ Bad BadLevel
+unfolding fault_of stamped filter keep
 tied = refl
 
 -- SCK rises alone; with CS, with SI, with HOLD; with SO, which may; SCL falls alone, and with SDA; SCK beside SDA
-clock-alone : faultOf (taken_of logged) (line selected) (at 3 false true false false true true true) ≡ Nothing
-unfolding faultOf stamped filter keep
-clock-alone = refl
+clock_alone : fault_of (taken_of logged) (line selected) (at 3 false true false false true true true) ≡ Nothing
+unfolding fault_of stamped filter keep
+clock_alone = refl
 
-with-cs : faultOf (taken_of logged) (line selected) (at 3 true true false false true true true) ≡ Bad Together
-unfolding faultOf stamped filter keep
-with-cs = refl
+with_cs : fault_of (taken_of logged) (line selected) (at 3 true true false false true true true) ≡ Bad Together
+unfolding fault_of stamped filter keep
+with_cs = refl
 
-with-si : faultOf (taken_of logged) (line selected) (at 3 false true true false true true true) ≡ Bad Together
-unfolding faultOf stamped filter keep
-with-si = refl
+with_si : fault_of (taken_of logged) (line selected) (at 3 false true true false true true true) ≡ Bad Together
+unfolding fault_of stamped filter keep
+with_si = refl
 
-with-hold : faultOf (taken_of logged) (line selected) (at 3 false true false false false true true) ≡ Bad Together
-unfolding faultOf stamped filter keep
-with-hold = refl
+with_hold : fault_of (taken_of logged) (line selected) (at 3 false true false false false true true) ≡ Bad Together
+unfolding fault_of stamped filter keep
+with_hold = refl
 
-with-so : faultOf (taken_of logged) (line selected) (at 3 false true false true true true true) ≡ Nothing
-unfolding faultOf stamped filter keep
-with-so = refl
+with_so : fault_of (taken_of logged) (line selected) (at 3 false true false true true true true) ≡ Nothing
+unfolding fault_of stamped filter keep
+with_so = refl
 
-wires-alone : faultOf (taken_of logged) (line selected) (at 3 false false false false true false true) ≡ Nothing
-unfolding faultOf stamped filter keep
-wires-alone = refl
+wires_alone : fault_of (taken_of logged) (line selected) (at 3 false false false false true false true) ≡ Nothing
+unfolding fault_of stamped filter keep
+wires_alone = refl
 
-wires-both : faultOf (taken_of logged) (line selected) (at 3 false false false false true false false) ≡ Bad Together
-unfolding faultOf stamped filter keep
-wires-both = refl
+wires_both : fault_of (taken_of logged) (line selected) (at 3 false false false false true false false) ≡ Bad Together
+unfolding fault_of stamped filter keep
+wires_both = refl
 
-buses-apart : faultOf (taken_of logged) (line selected) (at 3 false true false false true true false) ≡ Nothing
-unfolding faultOf stamped filter keep
-buses-apart = refl
+buses_apart : fault_of (taken_of logged) (line selected) (at 3 false true false false true true false) ≡ Nothing
+unfolding fault_of stamped filter keep
+buses_apart = refl
 
 -- 12 first on one line: SCK rises with CS, and the stamp is the `end`'s
-twelve-first : faultOf (taken_of logged) (line selected) (at 7 true true false false true true true) ≡ Bad BadLevel
-unfolding faultOf stamped filter keep
-twelve-first = refl
+twelve_first : fault_of (taken_of logged) (line selected) (at 7 true true false false true true true) ≡ Bad BadLevel
+unfolding fault_of stamped filter keep
+twelve_first = refl

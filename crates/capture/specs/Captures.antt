@@ -6,15 +6,15 @@ use Rattle.record.specs.declared.LevelsAnswer.{LevelsAnswer}
 use Rattle.record.specs.declared.LevelsAnswer.TheVariants.{BadLevel, Together}
 use Rattle.field.specs.Reads.{Stands}
 use Rattle.level.specs.declared.Level.{Level}
-use Rattle.level.specs.Spelled.{spelledLevel, LevelOk}
+use Rattle.level.specs.Spelled.{spelled_level, LevelOk}
 use Rattle.level.specs.Rest.{resting, clash}
 use Rattle.capture.specs.declared.Fault.{Fault}
 use Rattle.capture.specs.declared.Fault.TheVariants.{Nothing, Bad}
 use Rattle.capture.specs.Taken.{stamped}
 
-unfoldable pub spelledLevels : List Level → List ℕ
-spelledLevels [] = []
-spelledLevels (l ∷ ls) = spelledLevel l ++ spelledLevels ls
+unfoldable pub spelled_levels : List Level → List ℕ
+spelled_levels [] = []
+spelled_levels (l ∷ ls) = spelled_level l ++ spelled_levels ls
 
 -- the line before: none before the first
 pub data Before : Type 0 where
@@ -26,36 +26,36 @@ last_of p [] = p
 last_of p (l ∷ ls) = last_of (line l) ls
 
 -- 'a wrong first line, a stamp below the one before or equal to that of a record taken from the logger' (hit); what changes together; '12 first on one line'
-abbrev pub firstFault : Level → Bool → Fault
-firstFault l hit = pick (resting l) (pick hit (Bad BadLevel) Nothing) (Bad BadLevel)
+abbrev pub first_fault : Level → Bool → Fault
+first_fault l hit = pick (resting l) (pick hit (Bad BadLevel) Nothing) (Bad BadLevel)
 
-abbrev pub laterFault : Level → Level → Bool → Fault
-laterFault a l hit = pick (ltb l.stamp a.stamp) (Bad BadLevel) (pick hit (Bad BadLevel) (pick (clash a l) (Bad Together) Nothing))
+abbrev pub later_fault : Level → Level → Bool → Fault
+later_fault a l hit = pick (ltb l.stamp a.stamp) (Bad BadLevel) (pick hit (Bad BadLevel) (pick (clash a l) (Bad Together) Nothing))
 
 -- of the line l behind another, or as the first
-unfoldable pub faultOf : List Record → Before → Level → Fault
-faultOf ts none l = firstFault l (stamped ts l.stamp)
-faultOf ts (line a) l = laterFault a l (stamped ts l.stamp)
+unfoldable pub fault_of : List Record → Before → Level → Fault
+fault_of ts none l = first_fault l (stamped ts l.stamp)
+fault_of ts (line a) l = later_fault a l (stamped ts l.stamp)
 
 -- no line has a fault
 unfoldable pub Faultless : List Record → Before → List Level → Type 0
 Faultless ts p [] = Unit {0}
-Faultless ts p (l ∷ ls) = LevelOk l × (faultOf ts p l ≡ Nothing) × Faultless ts (line l) ls
+Faultless ts p (l ∷ ls) = LevelOk l × (fault_of ts p l ≡ Nothing) × Faultless ts (line l) ls
 
 -- the text is the spelling of the lines ls and nothing more; there is one at least
 pub record Captures (ts : List Record) (text : List ℕ) (ls : List Level) : Type 0 where
   pub some : 0 < length ls
   pub faultless : Faultless ts none ls
-  pub is : text ≡ spelledLevels ls
+  pub is : text ≡ spelled_levels ls
 
 -- the lines ls are faultless and stand at the front of the text
 pub record Begins (ts : List Record) (text : List ℕ) (ls : List Level) : Type 0 where
   pub faultless : Faultless ts none ls
-  pub stands : Stands text 0 (spelledLevels ls)
+  pub stands : Stands text 0 (spelled_levels ls)
 
 -- The first bad line, its refusal and its number: behind the lines ls, which are good, stands something that is no level line (an empty text has no first line), or a level line with a fault.
 pub data BadCapture (ts : List Record) (text : List ℕ) : LevelsAnswer → ℕ → Type 0 where
-  noLevel : (ls : List Level) → Begins ts text ls → ((ls ≡ []) ⊎ (length (spelledLevels ls) < length text)) →
-      ((l : Level) → LevelOk l → Stands text (length (spelledLevels ls)) (spelledLevel l) → ⊥) → BadCapture ts text BadLevel (length ls + 1)
-  faulty : (ls : List Level) (l : Level) (a : LevelsAnswer) → Begins ts text ls → LevelOk l → Stands text (length (spelledLevels ls)) (spelledLevel l) →
-      faultOf ts (last_of none ls) l ≡ Bad a → BadCapture ts text a (length ls + 1)
+  no_level : (ls : List Level) → Begins ts text ls → ((ls ≡ []) ⊎ (length (spelled_levels ls) < length text)) →
+      ((l : Level) → LevelOk l → Stands text (length (spelled_levels ls)) (spelled_level l) → ⊥) → BadCapture ts text BadLevel (length ls + 1)
+  faulty : (ls : List Level) (l : Level) (a : LevelsAnswer) → Begins ts text ls → LevelOk l → Stands text (length (spelled_levels ls)) (spelled_level l) →
+      fault_of ts (last_of none ls) l ≡ Bad a → BadCapture ts text a (length ls + 1)

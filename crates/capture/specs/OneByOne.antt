@@ -3,10 +3,10 @@ use Rattle.std.specs.Prelude.{ℕ, ◌≡◌, refl, List, [], ◌∷◌, ◌++�
 use Rattle.law.specs.Words.{All}
 use Rattle.record.specs.declared.Record.{Record}
 use Rattle.line.specs.Records.{spelled, RecordOk}
-use Rattle.text.specs.Texts.{spelledAll}
+use Rattle.text.specs.Texts.{spelled_all}
 use Rattle.level.specs.declared.Level.{Level}
-use Rattle.level.specs.Spelled.{spelledLevel, LevelOk}
-use Rattle.capture.specs.Captures.{spelledLevels}
+use Rattle.level.specs.Spelled.{spelled_level, LevelOk}
+use Rattle.capture.specs.Captures.{spelled_levels}
 
 -- how lines of a kind are spelled
 pub record Lines (A : Type 0) : Type 1 where
@@ -23,9 +23,9 @@ pub record From {A : Type 0} (k : Lines A) (text : List ℕ) (at : ℕ) (xs : Li
 
 -- the two kinds
 unfoldable pub records : Lines Record
-unfolding spelledAll
-records = record { spell = spelled; all = spelledAll; Ok = RecordOk; nil = refl; cons = λ r rs. refl }
+unfolding spelled_all
+records = record { spell = spelled; all = spelled_all; Ok = RecordOk; nil = refl; cons = λ r rs. refl }
 
 unfoldable pub levels : Lines Level
-unfolding spelledLevels
-levels = record { spell = spelledLevel; all = spelledLevels; Ok = LevelOk; nil = refl; cons = λ l ls. refl }
+unfolding spelled_levels
+levels = record { spell = spelled_level; all = spelled_levels; Ok = LevelOk; nil = refl; cons = λ l ls. refl }

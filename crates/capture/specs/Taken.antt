@@ -11,27 +11,27 @@ use Rattle.record.specs.declared.Record.{Record}
 use Rattle.capture.specs.declared.Part.{Part}
 use Rattle.capture.specs.declared.Part.TheVariants.{FlashEnds, EepromEnds, Lines}
 
-abbrev pub flashEnd : FlashEvent → Bool
-flashEnd flash.Select = false
-flashEnd (flash.Byte si so) = false
-flashEnd flash.Cut = false
-flashEnd flash.Deselect = false
-flashEnd flash.End = true
+abbrev pub flash_end : FlashEvent → Bool
+flash_end flash.Select = false
+flash_end (flash.Byte si so) = false
+flash_end flash.Cut = false
+flash_end flash.Deselect = false
+flash_end flash.End = true
 
-abbrev pub eepromEnd : EepromEvent → Bool
-eepromEnd eeprom.Start = false
-eepromEnd (eeprom.Byte b a) = false
-eepromEnd eeprom.Cut = false
-eepromEnd eeprom.Stop = false
-eepromEnd eeprom.End = true
+abbrev pub eeprom_end : EepromEvent → Bool
+eeprom_end eeprom.Start = false
+eeprom_end (eeprom.Byte b a) = false
+eeprom_end eeprom.Cut = false
+eeprom_end eeprom.Stop = false
+eeprom_end eeprom.End = true
 
 -- the flash's cycle ends, the EEPROM's, the line records
 abbrev pub is_of : Part → Event → Bool
-is_of FlashEnds (Flash e) = flashEnd e
+is_of FlashEnds (Flash e) = flash_end e
 is_of EepromEnds (Flash e) = false
 is_of Lines (Flash e) = false
 is_of FlashEnds (Eeprom e) = false
-is_of EepromEnds (Eeprom e) = eepromEnd e
+is_of EepromEnds (Eeprom e) = eeprom_end e
 is_of Lines (Eeprom e) = false
 is_of FlashEnds (Line e) = false
 is_of EepromEnds (Line e) = false
@@ -42,8 +42,8 @@ part_of p rs = filter (λ (r : Record). is_of p r.event) rs
 
 -- all of them
 abbrev pub taken : Event → Bool
-taken (Flash e) = flashEnd e
-taken (Eeprom e) = eepromEnd e
+taken (Flash e) = flash_end e
+taken (Eeprom e) = eeprom_end e
 taken (Line e) = true
 
 abbrev pub taken_of : List Record → List Record
@@ -55,18 +55,18 @@ stamped [] t = false
 stamped (r ∷ rs) t = pick (eqb r.stamp t) true (stamped rs t)
 
 -- what is passed over of the logger's trace: the records that move a bus. In the merged trace they are the capture's
-abbrev pub movesFlash : Event → Bool
-movesFlash (Flash e) = not (flashEnd e)
-movesFlash (Eeprom e) = false
-movesFlash (Line e) = false
+abbrev pub moves_flash : Event → Bool
+moves_flash (Flash e) = not (flash_end e)
+moves_flash (Eeprom e) = false
+moves_flash (Line e) = false
 
-abbrev pub movesEeprom : Event → Bool
-movesEeprom (Flash e) = false
-movesEeprom (Eeprom e) = not (eepromEnd e)
-movesEeprom (Line e) = false
+abbrev pub moves_eeprom : Event → Bool
+moves_eeprom (Flash e) = false
+moves_eeprom (Eeprom e) = not (eeprom_end e)
+moves_eeprom (Line e) = false
 
-abbrev pub flashMovers : List Record → List Record
-flashMovers rs = filter (λ (r : Record). movesFlash r.event) rs
+abbrev pub flash_movers : List Record → List Record
+flash_movers rs = filter (λ (r : Record). moves_flash r.event) rs
 
-abbrev pub eepromMovers : List Record → List Record
-eepromMovers rs = filter (λ (r : Record). movesEeprom r.event) rs
+abbrev pub eeprom_movers : List Record → List Record
+eeprom_movers rs = filter (λ (r : Record). moves_eeprom r.event) rs

@@ -1,6 +1,6 @@
 // What is taken from the logger's trace, and what can be wrong with a line of the capture (document 02, request 4/12).
 ghost use Rattle.std.specs.Prelude.{◌≡◌};
-ghost use Rattle.capture.specs.Taken.{flashEnd, eepromEnd, is_of, taken};
+ghost use Rattle.capture.specs.Taken.{flash_end, eeprom_end, is_of, taken};
 
 use record::{EepromEvent, Event, FlashEvent, LevelsAnswer};
 
@@ -20,7 +20,7 @@ pub enum Fault {
 }
 
 fn flash_end(e: FlashEvent) -> bool
-    ensures { result ≡ flashEnd e }
+    ensures { result ≡ flash_end e }
 {
     match e {
         FlashEvent::Select => false,
@@ -32,7 +32,7 @@ fn flash_end(e: FlashEvent) -> bool
 }
 
 fn eeprom_end(e: EepromEvent) -> bool
-    ensures { result ≡ eepromEnd e }
+    ensures { result ≡ eeprom_end e }
 {
     match e {
         EepromEvent::Start => false,

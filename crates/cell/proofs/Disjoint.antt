@@ -10,40 +10,40 @@ use lib.Dec.{eqb, T, eqb→eq}
 use lib.Ieee.Fits.{and_l, and_r}
 use lib.Bits.{bit_and, bit_or, and_step, or_step, and_shr, or_shr, and_comm, and_zero_r}
 use Rattle.cell.specs.declared.Cell.{Cell}
-use Rattle.cell.specs.Rules.{programmedCell, cutCell, erasedCell, doubtfulCell, storedCell, not8, Disjoint}
-use Rattle.law.specs.Choice.{lt-or-le}
+use Rattle.cell.specs.Rules.{programmed_cell, cut_cell, erased_cell, doubtful_cell, stored_cell, not8, Disjoint}
+use Rattle.law.specs.Choice.{lt_or_le}
 
-and-half : (a b : ℕ) → bit_and a b / 2 ≡ bit_and (a / 2) (b / 2)
-and-half a b = and_shr a b 1
+and_half : (a b : ℕ) → bit_and a b / 2 ≡ bit_and (a / 2) (b / 2)
+and_half a b = and_shr a b 1
 
-or-half : (a b : ℕ) → bit_or a b / 2 ≡ bit_or (a / 2) (b / 2)
-or-half a b = or_shr a b 1
+or_half : (a b : ℕ) → bit_or a b / 2 ≡ bit_or (a / 2) (b / 2)
+or_half a b = or_shr a b 1
 
-pub and-odd : (a b : ℕ) → bit_and a b % 2 ≡ min (a % 2) (b % 2)
-and-odd a b = omega (arith, and_step a b)
+pub and_odd : (a b : ℕ) → bit_and a b % 2 ≡ min (a % 2) (b % 2)
+and_odd a b = omega (arith, and_step a b)
 
-pub or-odd : (a b : ℕ) → bit_or a b % 2 ≡ max (a % 2) (b % 2)
-or-odd a b = omega (arith, or_step a b)
+pub or_odd : (a b : ℕ) → bit_or a b % 2 ≡ max (a % 2) (b % 2)
+or_odd a b = omega (arith, or_step a b)
 
 pub and_assoc : (a b c : ℕ) → bit_and (bit_and a b) c ≡ bit_and a (bit_and b c)
 and_assoc a =
     bin_ind (λ (n : ℕ). (b c : ℕ) → bit_and (bit_and n b) c ≡ bit_and n (bit_and b c)) (λ b c. refl)
     (λ n ih b c.
     and_step (bit_and n b) c
-    ∙ ap₂ (λ (x y : ℕ). bit_and x (c / 2) * 2 + min y (c % 2)) (and-half n b) (and-odd n b)
+    ∙ ap₂ (λ (x y : ℕ). bit_and x (c / 2) * 2 + min y (c % 2)) (and_half n b) (and_odd n b)
     ∙ ap₂ (λ (x y : ℕ). x * 2 + y) (ih (b / 2) (c / 2)) (omega arith)
-    ∙ sym (and_step n (bit_and b c) ∙ ap₂ (λ (x y : ℕ). bit_and (n / 2) x * 2 + min (n % 2) y) (and-half b c) (and-odd b c))) a
+    ∙ sym (and_step n (bit_and b c) ∙ ap₂ (λ (x y : ℕ). bit_and (n / 2) x * 2 + min (n % 2) y) (and_half b c) (and_odd b c))) a
 
-pub and-or : (a b c : ℕ) → bit_and a (bit_or b c) ≡ bit_or (bit_and a b) (bit_and a c)
-and-or a =
+pub and_or : (a b c : ℕ) → bit_and a (bit_or b c) ≡ bit_or (bit_and a b) (bit_and a c)
+and_or a =
     bin_ind (λ (n : ℕ). (b c : ℕ) → bit_and n (bit_or b c) ≡ bit_or (bit_and n b) (bit_and n c)) (λ b c. refl)
     (λ n ih b c.
     and_step n (bit_or b c)
-    ∙ ap₂ (λ (x y : ℕ). bit_and (n / 2) x * 2 + min (n % 2) y) (or-half b c) (or-odd b c)
+    ∙ ap₂ (λ (x y : ℕ). bit_and (n / 2) x * 2 + min (n % 2) y) (or_half b c) (or_odd b c)
     ∙ ap₂ (λ (x y : ℕ). x * 2 + y) (ih (b / 2) (c / 2)) (omega arith)
     ∙ sym (or_step (bit_and n b) (bit_and n c)
-    ∙ ap₂ (λ (x y : ℕ). bit_or x y * 2 + max (bit_and n b % 2) (bit_and n c % 2)) (and-half n b) (and-half n c)
-    ∙ ap₂ (λ (x y : ℕ). bit_or (bit_and (n / 2) (b / 2)) (bit_and (n / 2) (c / 2)) * 2 + max x y) (and-odd n b) (and-odd n c))) a
+    ∙ ap₂ (λ (x y : ℕ). bit_or x y * 2 + max (bit_and n b % 2) (bit_and n c % 2)) (and_half n b) (and_half n c)
+    ∙ ap₂ (λ (x y : ℕ). bit_or (bit_and (n / 2) (b / 2)) (bit_and (n / 2) (c / 2)) * 2 + max x y) (and_odd n b) (and_odd n c))) a
 
 -- parts of two numbers with no bit in common have none in common
 pub apart : (v m x y : ℕ) → bit_and v m ≡ 0 → bit_and (bit_and v x) (bit_and m y) ≡ 0
@@ -57,45 +57,45 @@ complements : ℕ → Bool
 complements zero = true
 complements (suc n) = eqb (bit_and n (255 - n)) 0 && complements n
 
-complement-at : (n d : ℕ) → T (complements n) → d < n → bit_and d (255 - d) ≡ 0
+complement_at : (n d : ℕ) → T (complements n) → d < n → bit_and d (255 - d) ≡ 0
 unfolding complements
-complement-at zero d t l = absurd (not-suc-le-zero l)
-complement-at (suc n) d t l =
+complement_at zero d t l = absurd (not-suc-le-zero l)
+complement_at (suc n) d t l =
     let here = eqb (bit_and n (255 - n)) 0 in
     ⊎_elim (λ e. ap (λ (k : ℕ). bit_and k (255 - k)) e ∙ eqb→eq (bit_and n (255 - n)) 0 (and_l here (complements n) t))
-    (λ h. complement-at n d (and_r here (complements n) t) h)
+    (λ h. complement_at n d (and_r here (complements n) t) h)
     (eq-or-lt_of_le (le_of_suc-le-suc l))
 
 -- past a byte the complement is 0
 pub complement : (d : ℕ) → bit_and d (255 - d) ≡ 0
 unfolding complements
 complement d =
-    ⊎_elim (λ l. complement-at 256 d tt l)
+    ⊎_elim (λ l. complement_at 256 d tt l)
     (λ l. let z : 255 - d ≡ 0 = omega arith in ap (bit_and d) z ∙ and_zero_r d)
-    (lt-or-le d 256)
+    (lt_or_le d 256)
 
-pub disjoint-erased : Disjoint erasedCell
+pub disjoint_erased : Disjoint erased_cell
 unfolding Disjoint
-disjoint-erased = refl
+disjoint_erased = refl
 
-pub disjoint-doubtful : Disjoint doubtfulCell
+pub disjoint_doubtful : Disjoint doubtful_cell
 unfolding Disjoint
-disjoint-doubtful = refl
+disjoint_doubtful = refl
 
-pub disjoint-stored : (d : ℕ) → Disjoint (storedCell d)
+pub disjoint_stored : (d : ℕ) → Disjoint (stored_cell d)
 unfolding Disjoint
-disjoint-stored d = and_zero_r d
+disjoint_stored d = and_zero_r d
 
-pub disjoint-programmed : (c : Cell) (d : ℕ) → Disjoint c → Disjoint (programmedCell c d)
+pub disjoint_programmed : (c : Cell) (d : ℕ) → Disjoint c → Disjoint (programmed_cell c d)
 unfolding Disjoint
-disjoint-programmed c d h = apart c.value c.mask d d h
+disjoint_programmed c d h = apart c.value c.mask d d h
 
 -- no bit of v AND d is in m, and none is in v AND NOT d
-pub disjoint-cut : (c : Cell) (d : ℕ) → Disjoint c → Disjoint (cutCell c d)
+pub disjoint_cut : (c : Cell) (d : ℕ) → Disjoint c → Disjoint (cut_cell c d)
 unfolding Disjoint
-disjoint-cut c d h =
+disjoint_cut c d h =
     let n = not8 d in
-    and-or (bit_and c.value d) c.mask (bit_and c.value n)
+    and_or (bit_and c.value d) c.mask (bit_and c.value n)
     ∙ ap₂ bit_or
     (ap (λ (x : ℕ). bit_and x c.mask) (and_comm c.value d) ∙ and_assoc d c.value c.mask ∙ ap (bit_and d) h ∙ and_zero_r d)
     (ap₂ bit_and (and_comm c.value d) (and_comm c.value n) ∙ apart d n c.value c.value (complement d))

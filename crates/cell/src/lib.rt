@@ -1,6 +1,6 @@
 // One kept byte: its value, and a mask of the bits that are in doubt. A doubtful bit is 0 in the value.
 ghost use Rattle.std.specs.Prelude.{◌≡◌};
-ghost use Rattle.cell.specs.Rules.{erasedCell, doubtfulCell, storedCell, programmedCell, cutCell, agreesCell};
+ghost use Rattle.cell.specs.Rules.{erased_cell, doubtful_cell, stored_cell, programmed_cell, cut_cell, agrees_cell};
 
 #[derive(Drop)]
 pub struct Cell {
@@ -10,7 +10,7 @@ pub struct Cell {
 
 // After an erase that ended.
 pub fn erased() -> Cell
-    ensures { result ≡ erasedCell }
+    ensures { result ≡ erased_cell }
 {
     Cell {
         value: 255,
@@ -20,7 +20,7 @@ pub fn erased() -> Cell
 
 // Nothing is known of it.
 pub fn doubtful() -> Cell
-    ensures { result ≡ doubtfulCell }
+    ensures { result ≡ doubtful_cell }
 {
     Cell {
         value: 0,
@@ -30,14 +30,14 @@ pub fn doubtful() -> Cell
 
 // The EEPROM's byte d after its cycle ended.
 pub fn stored(d: u8) -> Cell
-    ensures { result ≡ storedCell d }
+    ensures { result ≡ stored_cell d }
 {
     Cell { value: d, mask: 0 }
 }
 
 // 'Flash rules': a byte under data d after a program that ended.
 pub fn programmed(c: Cell, d: u8) -> Cell
-    ensures { result ≡ programmedCell c d }
+    ensures { result ≡ programmed_cell c d }
 {
     let Cell { value: v, mask: m } = c;
     Cell {
@@ -48,7 +48,7 @@ pub fn programmed(c: Cell, d: u8) -> Cell
 
 // 'Supply': a flash byte under data d after a program that was cut.
 pub fn cut_program(c: Cell, d: u8) -> Cell
-    ensures { result ≡ cutCell c d }
+    ensures { result ≡ cut_cell c d }
 {
     let Cell { value: v, mask: m } = c;
     Cell {
@@ -59,7 +59,7 @@ pub fn cut_program(c: Cell, d: u8) -> Cell
 
 // Do the sure bits agree with the byte that was recorded?
 pub fn agrees(c: Cell, seen: u8) -> bool
-    ensures { result ≡ agreesCell c seen }
+    ensures { result ≡ agrees_cell c seen }
 {
     seen & !c.mask == c.value & !c.mask
 }

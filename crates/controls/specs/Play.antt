@@ -8,50 +8,50 @@ use Rattle.record.specs.declared.FlashEvent.{FlashEvent}
 use Rattle.record.specs.declared.EepromEvent.{EepromEvent}
 use Rattle.record.specs.declared.LineEvent.{LineEvent}
 use Rattle.record.specs.declared.Skeleton.TheVariants.{Silent}
-use Rattle.record.specs.LineRules.{linesAtStart, linesAfter}
+use Rattle.record.specs.LineRules.{lines_at_start, lines_after}
 use Rattle.flash.specs.Step as flash-rules
-use Rattle.eeprom.specs.Chip as eeprom-chip
+use Rattle.eeprom.specs.Chip as eeprom_chip
 use Rattle.eeprom.specs.Step as eeprom-rules
 use Rattle.controls.specs.declared.Controls.{Controls}
 use Rattle.controls.specs.declared.Moved.{Moved}
 
 -- 'Bytes and doubt': supply on, lock off, both chips idle
 abbrev pub start_of : Board → Controls
-start_of b = record { flash = flash-rules.start_of b.status; eeprom = eeprom-chip.start_of; lines = linesAtStart }
+start_of b = record { flash = flash-rules.start_of b.status; eeprom = eeprom_chip.start_of; lines = lines_at_start }
 
-abbrev pub flashMoved : Controls → FlashEvent → ℕ → Moved
-flashMoved c e watched =
+abbrev pub flash_moved : Controls → FlashEvent → ℕ → Moved
+flash_moved c e watched =
     record {
       controls = record { flash = (flash-rules.step_of c.flash e c.lines watched).chip; eeprom = c.eeprom; lines = c.lines };
       reply = (flash-rules.step_of c.flash e c.lines watched).reply;
     }
 
-abbrev pub eepromMoved : Controls → EepromEvent → ℕ → Moved
-eepromMoved c e wired =
+abbrev pub eeprom_moved : Controls → EepromEvent → ℕ → Moved
+eeprom_moved c e wired =
     record {
       controls = record { flash = c.flash; eeprom = (eeprom-rules.step_of c.eeprom e c.lines wired).chip; lines = c.lines };
       reply = (eeprom-rules.step_of c.eeprom e c.lines wired).reply;
     }
 
 -- line records are silent
-abbrev pub lineMoved : Controls → LineEvent → Moved
-lineMoved c e =
+abbrev pub line_moved : Controls → LineEvent → Moved
+line_moved c e =
     record {
       controls = record {
         flash = flash-rules.line_of c.flash e c.lines;
         eeprom = eeprom-rules.line_of c.eeprom e c.lines;
-        lines = linesAfter c.lines e;
+        lines = lines_after c.lines e;
       };
       reply = Silent;
     }
 
-abbrev pub eventMoved : Board → Controls → Event → Moved
-eventMoved b c (event.Flash e) = flashMoved c e b.sector
-eventMoved b c (event.Eeprom e) = eepromMoved c e b.address
-eventMoved b c (event.Line e) = lineMoved c e
+abbrev pub event_moved : Board → Controls → Event → Moved
+event_moved b c (event.Flash e) = flash_moved c e b.sector
+event_moved b c (event.Eeprom e) = eeprom_moved c e b.address
+event_moved b c (event.Line e) = line_moved c e
 
-unfoldable pub movedOf : Board → Controls → Record → Moved
-movedOf b c r = eventMoved b c r.event
+unfoldable pub moved_of : Board → Controls → Record → Moved
+moved_of b c r = event_moved b c r.event
 
-abbrev pub lostOf : Controls → Bool
-lostOf c = flash-rules.lostOf c.flash
+abbrev pub lost_of : Controls → Bool
+lost_of c = flash-rules.lost_of c.flash

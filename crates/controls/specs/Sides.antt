@@ -3,8 +3,8 @@ use Rattle.controls.specs.declared.Controls.{Controls}
 use Rattle.flash.specs.Side as flash-side
 use Rattle.eeprom.specs.Side as eeprom-side
 
-abbrev pub flashSide : Controls → flash-side.Side
-flashSide c = record { chip = c.flash; lines = c.lines }
+abbrev pub flash_side : Controls → flash-side.Side
+flash_side c = record { chip = c.flash; lines = c.lines }
 
-abbrev pub eepromSide : Controls → eeprom-side.Side
-eepromSide c = record { chip = c.eeprom; lines = c.lines }
+abbrev pub eeprom_side : Controls → eeprom-side.Side
+eeprom_side c = record { chip = c.eeprom; lines = c.lines }

@@ -1,7 +1,7 @@
 // Both chips' controls and the two lines: what one record does to them, and its skeleton reply.
 ghost use Rattle.std.specs.Prelude.{◌≡◌};
 ghost use Rattle.law.specs.Deciding.{Decides};
-ghost use Rattle.controls.specs.Play.{start_of, movedOf, lostOf, flashMoved, eepromMoved, lineMoved};
+ghost use Rattle.controls.specs.Play.{start_of, moved_of, lost_of, flash_moved, eeprom_moved, line_moved};
 
 use eeprom::Eeprom;
 use flash::Flash;
@@ -34,7 +34,7 @@ impl Controls {
 
     // A record of channel F.
     fn flash_moved(self, e: FlashEvent, watched: u8) -> Moved
-        ensures { result ≡ flashMoved self e watched }
+        ensures { result ≡ flash_moved self e watched }
     {
         let flash = self.flash;
         let eeprom = self.eeprom;
@@ -55,7 +55,7 @@ impl Controls {
 
     // A record of channel E.
     fn eeprom_moved(self, e: EepromEvent, wired: u8) -> Moved
-        ensures { result ≡ eepromMoved self e wired }
+        ensures { result ≡ eeprom_moved self e wired }
     {
         let flash = self.flash;
         let eeprom = self.eeprom;
@@ -76,7 +76,7 @@ impl Controls {
 
     // A record of channel L reaches both chips.
     fn line_moved(self, e: LineEvent) -> Moved
-        ensures { result ≡ lineMoved self e }
+        ensures { result ≡ line_moved self e }
     {
         let flash = self.flash;
         let eeprom = self.eeprom;
@@ -94,7 +94,7 @@ impl Controls {
 
     // Any record.
     pub fn play(self, board: Board, rec: Record) -> Moved
-        ensures { result ≡ movedOf board self rec }
+        ensures { result ≡ moved_of board self rec }
     {
         let event = rec.event;
         match event {
@@ -106,7 +106,7 @@ impl Controls {
 
     // Whether the flash's status is lost.
     pub fn lost(self) -> bool
-        ensures { result ≡ lostOf self }
+        ensures { result ≡ lost_of self }
     {
         let flash = self.flash;
         flash.lost()

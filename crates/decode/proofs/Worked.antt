@@ -10,8 +10,8 @@ use Rattle.record.specs.declared.Record.{Record}
 use Rattle.level.specs.declared.Spi.{Spi}
 use Rattle.level.specs.declared.Wires.{Wires}
 use Rattle.level.specs.declared.Level.{Level}
-use Rattle.decode.specs.Bits.{eventsOf}
-use Rattle.decode.specs.Decoded.{recordAt, decodedBy, decodedFrom, flashOf, eepromOf}
+use Rattle.decode.specs.Bits.{events_of}
+use Rattle.decode.specs.Decoded.{record_at, decoded_by, decoded_from, flash_of, eeprom_of}
 
 abbrev pin : ℕ → Bool
 pin zero = false
@@ -21,9 +21,9 @@ pin (suc n) = true
 abbrev spi : ℕ → ℕ → ℕ → ℕ → ℕ → Spi
 spi cs sck si so hold = record { cs = pin cs; sck = pin sck; si = pin si; so = pin so; hold = pin hold }
 
-abbrev flashLines : ℕ → List Spi → List Level
-flashLines t [] = []
-flashLines t (s ∷ ss) = record { stamp = t; spi = s; wires = record { scl = true; sda = true } } ∷ flashLines (suc t) ss
+abbrev flash_lines : ℕ → List Spi → List Level
+flash_lines t [] = []
+flash_lines t (s ∷ ss) = record { stamp = t; spi = s; wires = record { scl = true; sda = true } } ∷ flash_lines (suc t) ss
 
 -- SI and SO stand, and a clock comes
 abbrev clock : ℕ → ℕ → ℕ → List Spi
@@ -37,31 +37,31 @@ abbrev low : List Spi
 low = clock 1 0 0 ++ (clock 1 1 0 ++ (clock 1 0 1 ++ clock 1 1 1))
 
 abbrev selected : List Spi → List Level
-selected ss = flashLines 0 (spi 1 0 0 0 1 ∷ spi 0 0 0 0 1 ∷ ss ++ (spi 1 0 0 0 1 ∷ []))
+selected ss = flash_lines 0 (spi 1 0 0 0 1 ∷ spi 0 0 0 0 1 ∷ ss ++ (spi 1 0 0 0 1 ∷ []))
 
 abbrev f : ℕ → FlashEvent → Record
-f t e = recordAt t (Flash e)
+f t e = record_at t (Flash e)
 
-pub byte : flashOf (selected (high ++ low)) ≡ f 1 FlashEvent.Select ∷ f 24 (FlashEvent.Byte 5 163) ∷ f 26 FlashEvent.Deselect ∷ []
-unfolding decodedBy decodedFrom eventsOf
+pub byte : flash_of (selected (high ++ low)) ≡ f 1 FlashEvent.Select ∷ f 24 (FlashEvent.Byte 5 163) ∷ f 26 FlashEvent.Deselect ∷ []
+unfolding decoded_by decoded_from events_of
 byte = refl
 
-pub part : flashOf (selected high) ≡ f 1 FlashEvent.Select ∷ f 14 FlashEvent.Cut ∷ f 14 FlashEvent.Deselect ∷ []
-unfolding decodedBy decodedFrom eventsOf
+pub part : flash_of (selected high) ≡ f 1 FlashEvent.Select ∷ f 14 FlashEvent.Cut ∷ f 14 FlashEvent.Deselect ∷ []
+unfolding decoded_by decoded_from events_of
 part = refl
 
 -- two clocks with HOLD low
-pub held : flashOf (selected (high ++ (clock 0 1 1 ++ (clock 0 1 1 ++ low)))) ≡ f 1 FlashEvent.Select ∷ f 30 (FlashEvent.Byte 5 163) ∷ f 32 FlashEvent.Deselect ∷ []
-unfolding decodedBy decodedFrom eventsOf
+pub held : flash_of (selected (high ++ (clock 0 1 1 ++ (clock 0 1 1 ++ low)))) ≡ f 1 FlashEvent.Select ∷ f 30 (FlashEvent.Byte 5 163) ∷ f 32 FlashEvent.Deselect ∷ []
+unfolding decoded_by decoded_from events_of
 held = refl
 
 -- ---- the two wires: SCL, SDA
 abbrev wires : ℕ → ℕ → Wires
 wires scl sda = record { scl = pin scl; sda = pin sda }
 
-abbrev wireLines : ℕ → List Wires → List Level
-wireLines t [] = []
-wireLines t (w ∷ ws) = record { stamp = t; spi = spi 1 0 0 0 1; wires = w } ∷ wireLines (suc t) ws
+abbrev wire_lines : ℕ → List Wires → List Level
+wire_lines t [] = []
+wire_lines t (w ∷ ws) = record { stamp = t; spi = spi 1 0 0 0 1; wires = w } ∷ wire_lines (suc t) ws
 
 abbrev bits : List ℕ → List Wires
 bits [] = []
@@ -78,31 +78,31 @@ abbrev stop : List Wires
 stop = wires 0 0 ∷ wires 1 0 ∷ wires 1 1 ∷ []
 
 abbrev opened : List Wires → List Level
-opened ws = wireLines 0 (wires 1 1 ∷ start ++ (ws ++ stop))
+opened ws = wire_lines 0 (wires 1 1 ∷ start ++ (ws ++ stop))
 
 abbrev e : ℕ → EepromEvent → Record
-e t x = recordAt t (Eeprom x)
+e t x = record_at t (Eeprom x)
 
-pub acknowledged : eepromOf (opened (a1 ++ bits (0 ∷ []))) ≡ e 3 EepromEvent.Start ∷ e 31 (EepromEvent.Byte 161 false) ∷ e 34 EepromEvent.Stop ∷ []
-unfolding decodedBy decodedFrom eventsOf
+pub acknowledged : eeprom_of (opened (a1 ++ bits (0 ∷ []))) ≡ e 3 EepromEvent.Start ∷ e 31 (EepromEvent.Byte 161 false) ∷ e 34 EepromEvent.Stop ∷ []
+unfolding decoded_by decoded_from events_of
 acknowledged = refl
 
-pub no-ninth : eepromOf (opened a1) ≡ e 3 EepromEvent.Start ∷ e 31 EepromEvent.Cut ∷ e 31 EepromEvent.Stop ∷ []
-unfolding decodedBy decodedFrom eventsOf
-no-ninth = refl
+pub no_ninth : eeprom_of (opened a1) ≡ e 3 EepromEvent.Start ∷ e 31 EepromEvent.Cut ∷ e 31 EepromEvent.Stop ∷ []
+unfolding decoded_by decoded_from events_of
+no_ninth = refl
 
 -- the clock of the second start is no bit of the second byte, and after the first no part
-pub repeated : eepromOf (opened (a1 ++ (bits (0 ∷ []) ++ (start ++ (a1 ++ bits (1 ∷ []))))))
+pub repeated : eeprom_of (opened (a1 ++ (bits (0 ∷ []) ++ (start ++ (a1 ++ bits (1 ∷ []))))))
     ≡ e 3 EepromEvent.Start ∷ e 31 (EepromEvent.Byte 161 false) ∷ e 34 EepromEvent.Start ∷ e 62 (EepromEvent.Byte 161 true) ∷ e 65 EepromEvent.Stop ∷ []
-unfolding decodedBy decodedFrom eventsOf
+unfolding decoded_by decoded_from events_of
 repeated = refl
 
 -- with no start open clocks and stops are passed over
-pub closed : eepromOf (wireLines 0 (wires 1 1 ∷ a1 ++ stop)) ≡ []
-unfolding decodedBy decodedFrom eventsOf
+pub closed : eeprom_of (wire_lines 0 (wires 1 1 ∷ a1 ++ stop)) ≡ []
+unfolding decoded_by decoded_from events_of
 closed = refl
 
 -- a part left at the end of the capture is dropped
-pub dropped : eepromOf (wireLines 0 (wires 1 1 ∷ start ++ a1)) ≡ e 3 EepromEvent.Start ∷ []
-unfolding decodedBy decodedFrom eventsOf
+pub dropped : eeprom_of (wire_lines 0 (wires 1 1 ∷ start ++ a1)) ≡ e 3 EepromEvent.Start ∷ []
+unfolding decoded_by decoded_from events_of
 dropped = refl

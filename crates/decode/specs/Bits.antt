@@ -9,7 +9,7 @@ abbrev pub pushed : ℕ → Bool → ℕ
 pushed byte true = byte % 128 * 2 + 1
 pushed byte false = byte % 128 * 2
 
-unfoldable pub eventsOf : Out → List Event
-eventsOf Nothing = []
-eventsOf (One e) = e ∷ []
-eventsOf (Two d e) = d ∷ e ∷ []
+unfoldable pub events_of : Out → List Event
+events_of Nothing = []
+events_of (One e) = e ∷ []
+events_of (Two d e) = d ∷ e ∷ []

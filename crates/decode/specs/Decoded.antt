@@ -7,46 +7,46 @@ use Rattle.decode.specs.declared.flash_bits.FlashTurn.{FlashTurn}
 use Rattle.decode.specs.declared.wire_bits.WireTurn.{WireTurn}
 use Rattle.decode.specs.declared.bits.Bits.{Bits}
 use Rattle.decode.specs.declared.bits.Turn.{Turn}
-use Rattle.decode.specs.Bits.{eventsOf}
-use Rattle.decode.specs.FlashLevels.{noBits, flashTurn}
-use Rattle.decode.specs.WireLevels.{atRest, wireTurn}
+use Rattle.decode.specs.Bits.{events_of}
+use Rattle.decode.specs.FlashLevels.{no_bits, flash_turn}
+use Rattle.decode.specs.WireLevels.{at_rest, wire_turn}
 
-abbrev pub ofFlash : FlashTurn → Turn
-ofFlash t = record { bits = Bits.Flash t.bits; out = t.out }
+abbrev pub of_flash : FlashTurn → Turn
+of_flash t = record { bits = Bits.Flash t.bits; out = t.out }
 
-abbrev pub ofWires : WireTurn → Turn
-ofWires t = record { bits = Bits.Wires t.bits; out = t.out }
+abbrev pub of_wires : WireTurn → Turn
+of_wires t = record { bits = Bits.Wires t.bits; out = t.out }
 
 -- from one line of the capture to the next, on the lines of the bus that is decoded
 abbrev pub turn_of : Bits → Level → Level → Turn
-turn_of (Bits.Flash s) a b = ofFlash (flashTurn s a.spi b.spi)
-turn_of (Bits.Wires s) a b = ofWires (wireTurn s a.wires b.wires)
+turn_of (Bits.Flash s) a b = of_flash (flash_turn s a.spi b.spi)
+turn_of (Bits.Wires s) a b = of_wires (wire_turn s a.wires b.wires)
 
-abbrev pub recordAt : ℕ → Event → Record
-recordAt t e = record { stamp = t; event = e }
+abbrev pub record_at : ℕ → Event → Record
+record_at t e = record { stamp = t; event = e }
 
 -- what is given at the stamp t
-abbrev pub recordsAt : ℕ → List Event → List Record
-recordsAt t es = map (recordAt t) es
+abbrev pub records_at : ℕ → List Event → List Record
+records_at t es = map (record_at t) es
 
 -- the records of the lines ls after the line a, with the bits so far
-unfoldable pub decodedFrom : Bits → Level → List Level → List Record
-decodedFrom s a [] = []
-decodedFrom s a (b ∷ ls) = recordsAt b.stamp (eventsOf (turn_of s a b).out) ++ decodedFrom (turn_of s a b).bits b ls
+unfoldable pub decoded_from : Bits → Level → List Level → List Record
+decoded_from s a [] = []
+decoded_from s a (b ∷ ls) = records_at b.stamp (events_of (turn_of s a b).out) ++ decoded_from (turn_of s a b).bits b ls
 
 -- the first line gives no record
-unfoldable pub decodedBy : Bits → List Level → List Record
-decodedBy s [] = []
-decodedBy s (a ∷ ls) = decodedFrom s a ls
+unfoldable pub decoded_by : Bits → List Level → List Record
+decoded_by s [] = []
+decoded_by s (a ∷ ls) = decoded_from s a ls
 
-abbrev pub flashStart : Bits
-flashStart = Bits.Flash noBits
+abbrev pub flash_start : Bits
+flash_start = Bits.Flash no_bits
 
-abbrev pub wiresStart : Bits
-wiresStart = Bits.Wires atRest
+abbrev pub wires_start : Bits
+wires_start = Bits.Wires at_rest
 
-abbrev pub flashOf : List Level → List Record
-flashOf ls = decodedBy flashStart ls
+abbrev pub flash_of : List Level → List Record
+flash_of ls = decoded_by flash_start ls
 
-abbrev pub eepromOf : List Level → List Record
-eepromOf ls = decodedBy wiresStart ls
+abbrev pub eeprom_of : List Level → List Record
+eeprom_of ls = decoded_by wires_start ls

@@ -12,29 +12,29 @@ use Rattle.decode.specs.declared.flash_bits.FlashTurn.{FlashTurn}
 use Rattle.decode.specs.Bits.{pushed}
 
 -- no bit of a byte yet
-abbrev pub noBits : FlashBits
-noBits = record { count = 0; si = 0; so = 0 }
+abbrev pub no_bits : FlashBits
+no_bits = record { count = 0; si = 0; so = 0 }
 
-abbrev pub flashTurned : FlashBits → Out → FlashTurn
-flashTurned s o = record { bits = s; out = o }
+abbrev pub flash_turned : FlashBits → Out → FlashTurn
+flash_turned s o = record { bits = s; out = o }
 
 -- a clock that counts, with SI and SO as they are on its line: the eighth completes the byte
-abbrev pub flashClock : FlashBits → Bool → Bool → FlashTurn
-flashClock s si so =
-    pick (ltb s.count 7) (flashTurned (record { count = s.count + 1; si = pushed s.si si; so = pushed s.so so }) Nothing)
-    (flashTurned noBits (One (Flash (Byte (pushed s.si si) (pushed s.so so)))))
+abbrev pub flash_clock : FlashBits → Bool → Bool → FlashTurn
+flash_clock s si so =
+    pick (ltb s.count 7) (flash_turned (record { count = s.count + 1; si = pushed s.si si; so = pushed s.so so }) Nothing)
+    (flash_turned no_bits (One (Flash (Byte (pushed s.si si) (pushed s.so so)))))
 
 -- CS rises: after 1 to 7 clocks `cut`, then `des`
-abbrev pub flashEnds : FlashBits → FlashTurn
-flashEnds s = pick (eqb s.count 0) (flashTurned noBits (One (Flash Deselect))) (flashTurned noBits (Two (Flash Cut) (Flash Deselect)))
+abbrev pub flash_ends : FlashBits → FlashTurn
+flash_ends s = pick (eqb s.count 0) (flash_turned no_bits (One (Flash Deselect))) (flash_turned no_bits (Two (Flash Cut) (Flash Deselect)))
 
 -- CS is low: the clock counts where it rises and HOLD is high
-abbrev pub flashLow : FlashBits → Spi → Spi → FlashTurn
-flashLow s a b = pick (rises a.sck b.sck) (pick b.hold (flashClock s b.si b.so) (flashTurned s Nothing)) (flashTurned s Nothing)
+abbrev pub flash_low : FlashBits → Spi → Spi → FlashTurn
+flash_low s a b = pick (rises a.sck b.sck) (pick b.hold (flash_clock s b.si b.so) (flash_turned s Nothing)) (flash_turned s Nothing)
 
 -- from one line of the capture to the next: `sel` at CS's fall, `des` at its rise, clocks while it is low
-abbrev pub flashTurn : FlashBits → Spi → Spi → FlashTurn
-flashTurn s a b =
-    pick (falls a.cs b.cs) (flashTurned noBits (One (Flash Select)))
-    (pick (rises a.cs b.cs) (flashEnds s)
-    (pick b.cs (flashTurned s Nothing) (flashLow s a b)))
+abbrev pub flash_turn : FlashBits → Spi → Spi → FlashTurn
+flash_turn s a b =
+    pick (falls a.cs b.cs) (flash_turned no_bits (One (Flash Select)))
+    (pick (rises a.cs b.cs) (flash_ends s)
+    (pick b.cs (flash_turned s Nothing) (flash_low s a b)))

@@ -1,6 +1,6 @@
 // Either bus by itself: the bits so far of the one that is decoded.
 ghost use Rattle.std.specs.Prelude.{◌≡◌};
-ghost use Rattle.decode.specs.Decoded.{flashStart, wiresStart, turn_of};
+ghost use Rattle.decode.specs.Decoded.{flash_start, wires_start, turn_of};
 
 use crate::{FlashBits, Out, WireBits};
 use level::Level;
@@ -19,13 +19,13 @@ pub struct Turn {
 
 impl Bits {
     pub fn of_flash() -> Bits
-        ensures { result ≡ flashStart }
+        ensures { result ≡ flash_start }
     {
         Bits::Flash(FlashBits::none())
     }
 
     pub fn of_wires() -> Bits
-        ensures { result ≡ wiresStart }
+        ensures { result ≡ wires_start }
     {
         Bits::Wires(WireBits::none())
     }

@@ -1,6 +1,6 @@
 // The flash's lines: `sel`, `x`, `cut`, `des`.
 ghost use Rattle.std.specs.Prelude.{◌≡◌};
-ghost use Rattle.decode.specs.FlashLevels.{noBits, flashClock, flashEnds, flashLow, flashTurn};
+ghost use Rattle.decode.specs.FlashLevels.{no_bits, flash_clock, flash_ends, flash_low, flash_turn};
 
 use crate::Out;
 use level::Spi;
@@ -22,7 +22,7 @@ pub struct FlashTurn {
 
 impl FlashBits {
     pub fn none() -> FlashBits
-        ensures { result ≡ noBits }
+        ensures { result ≡ no_bits }
     {
         FlashBits {
             count: 0,
@@ -33,7 +33,7 @@ impl FlashBits {
 
     // A clock that counts: the eighth completes the byte.
     fn clock(self, si: bool, so: bool) -> FlashTurn
-        ensures { result ≡ flashClock self si so }
+        ensures { result ≡ flash_clock self si so }
     {
         let si_bits = crate::push_bit(self.si, si);
         let so_bits = crate::push_bit(self.so, so);
@@ -56,7 +56,7 @@ impl FlashBits {
 
     // CS rises: a part of a byte is cut, whatever HOLD is.
     fn ends(self) -> FlashTurn
-        ensures { result ≡ flashEnds self }
+        ensures { result ≡ flash_ends self }
     {
         if self.count == 0 {
             return FlashTurn {
@@ -74,7 +74,7 @@ impl FlashBits {
 
     // CS is low: the clock counts where it rises and HOLD is high.
     fn low(self, before: Spi, after: Spi) -> FlashTurn
-        ensures { result ≡ flashLow self before after }
+        ensures { result ≡ flash_low self before after }
     {
         if level::rises(before.sck, after.sck) {
             if after.hold {
@@ -93,7 +93,7 @@ impl FlashBits {
 
     // From one line of the capture to the next.
     pub fn turn(self, before: Spi, after: Spi) -> FlashTurn
-        ensures { result ≡ flashTurn self before after }
+        ensures { result ≡ flash_turn self before after }
     {
         if level::falls(before.cs, after.cs) {
             return FlashTurn {

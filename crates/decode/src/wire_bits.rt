@@ -1,6 +1,6 @@
 // The two wires of the EEPROM: `sta`, `b`, `cut`, `sto`.
 ghost use Rattle.std.specs.Prelude.{◌≡◌};
-ghost use Rattle.decode.specs.WireLevels.{atRest, wireTurned, afterPart, startTurn, stopTurn, bitTurn, fallTurn, highTurn, wireTurn};
+ghost use Rattle.decode.specs.WireLevels.{at_rest, wire_turned, after_part, start_turn, stop_turn, bit_turn, fall_turn, high_turn, wire_turn};
 
 use crate::Out;
 use level::Wires;
@@ -33,7 +33,7 @@ pub struct WireTurn {
 }
 
 fn turned(link: Link, clock: Clock, out: Out) -> WireTurn
-    ensures { result ≡ wireTurned link clock out }
+    ensures { result ≡ wire_turned link clock out }
 {
     WireTurn {
         bits: WireBits { link, clock },
@@ -43,7 +43,7 @@ fn turned(link: Link, clock: Clock, out: Out) -> WireTurn
 
 // A start or a stop: 1 to 8 bits before it are cut.
 fn after_part(count: u8, e: EepromEvent) -> Out
-    ensures { result ≡ afterPart count e }
+    ensures { result ≡ after_part count e }
 {
     if count == 0 {
         return Out::One(Event::Eeprom(e));
@@ -53,7 +53,7 @@ fn after_part(count: u8, e: EepromEvent) -> Out
 
 // The clock that is high is no bit.
 fn start_turn(link: Link) -> WireTurn
-    ensures { result ≡ startTurn link }
+    ensures { result ≡ start_turn link }
 {
     match link {
         Link::Closed => turned(
@@ -70,7 +70,7 @@ fn start_turn(link: Link) -> WireTurn
 
 // With no start open a stop is passed over.
 fn stop_turn(link: Link) -> WireTurn
-    ensures { result ≡ stopTurn link }
+    ensures { result ≡ stop_turn link }
 {
     match link {
         Link::Closed => turned(Link::Closed, Clock::Nothing, Out::Nothing),
@@ -83,7 +83,7 @@ fn stop_turn(link: Link) -> WireTurn
 
 // The ninth bit is the acknowledge; with no start open a clock is passed over.
 fn bit_turn(link: Link, level: bool) -> WireTurn
-    ensures { result ≡ bitTurn link level }
+    ensures { result ≡ bit_turn link level }
 {
     match link {
         Link::Closed => turned(Link::Closed, Clock::Nothing, Out::Nothing),
@@ -103,7 +103,7 @@ fn bit_turn(link: Link, level: bool) -> WireTurn
 
 // SCL falls: its bit counts.
 fn fall_turn(link: Link, clock: Clock) -> WireTurn
-    ensures { result ≡ fallTurn link clock }
+    ensures { result ≡ fall_turn link clock }
 {
     match clock {
         Clock::Nothing => turned(link, Clock::Nothing, Out::Nothing),
@@ -113,7 +113,7 @@ fn fall_turn(link: Link, clock: Clock) -> WireTurn
 
 // SCL stays high: SDA falls in a start and rises in a stop.
 fn high_turn(link: Link, clock: Clock, before: bool, after: bool) -> WireTurn
-    ensures { result ≡ highTurn link clock before after }
+    ensures { result ≡ high_turn link clock before after }
 {
     if level::falls(before, after) {
         return start_turn(link);
@@ -127,7 +127,7 @@ fn high_turn(link: Link, clock: Clock, before: bool, after: bool) -> WireTurn
 impl WireBits {
     // No start is open.
     pub fn none() -> WireBits
-        ensures { result ≡ atRest }
+        ensures { result ≡ at_rest }
     {
         WireBits {
             link: Link::Closed,
@@ -137,7 +137,7 @@ impl WireBits {
 
     // From one line of the capture to the next.
     pub fn turn(self, before: Wires, after: Wires) -> WireTurn
-        ensures { result ≡ wireTurn self before after }
+        ensures { result ≡ wire_turn self before after }
     {
         let link = self.link;
         let clock = self.clock;

@@ -5,9 +5,9 @@ use Rattle.demands.specs.Demands.{BenchSheet}
 use Rattle.demands.proofs.BenchCases.{case1, case2, case3, case4, case5, case6, case7, case8, case9, case10, case11, case12}
 
 -- the twelve sentences hold of all images of the chips' lengths
-pub bench-sheet : BenchSheet
+pub bench_sheet : BenchSheet
 unfolding AllHold
-bench-sheet x h = (
+bench_sheet x h = (
   case1 x (h Chip.Flash),
   (
     case2 x (h Chip.Flash),

@@ -5,36 +5,36 @@ use native.Mathlib.Omega.{arith}
 use Rattle.law.specs.Lists.{RisingFrom}
 use Rattle.law.specs.Words.{filter, keep, All}
 use Rattle.meaning.specs.Meaning.{E, L, after}
-use Rattle.meaning.proofs.Onward.{goesOn}
-use Rattle.meaning.proofs.Steps.{means-end}
+use Rattle.meaning.proofs.Onward.{goes_on}
+use Rattle.meaning.proofs.Steps.{means_end}
 use Rattle.record.specs.declared.LineEvent.TheVariants.{SupplyOff}
-use Rattle.record.specs.Records.{onL}
+use Rattle.record.specs.Records.{on_l}
 use Rattle.image.specs.Images.{Images}
-use Rattle.controls.specs.Play.{movedOf}
-use Rattle.machine.specs.Effects.{flashAfter, eepromAfter}
-use Rattle.machine.specs.Machine.{Machine, machineAtStart, onMachine, playOn}
+use Rattle.controls.specs.Play.{moved_of}
+use Rattle.machine.specs.Effects.{flash_after, eeprom_after}
+use Rattle.machine.specs.Machine.{Machine, machine_at_start, on_machine, play_on}
 use Rattle.text.specs.Buses as buses
-use Rattle.call.specs.Replay.{shown, shownAs}
+use Rattle.call.specs.Replay.{shown, shown_as}
 use Rattle.demands.specs.Bench.{plain, Answered}
-use Rattle.demands.specs.Worked.{pageStarted, pageCut}
-use Rattle.demands.proofs.OneStamp.{one-channel, stamp-passes}
-use Rattle.demands.proofs.FourTexts.{Written, is-written, plain_ok}
+use Rattle.demands.specs.Worked.{page_started, page_cut}
+use Rattle.demands.proofs.OneStamp.{one_channel, stamp_passes}
+use Rattle.demands.proofs.FourTexts.{Written, is_written, plain_ok}
 
-pub pageCut-written : Written plain pageCut
+pub page_cut_written : Written plain page_cut
 unfolding All RisingFrom buses.after
-pageCut-written = is-written plain pageCut plain_ok (omega arith) (omega arith) (_, refl) (omega arith)
+page_cut_written = is_written plain page_cut plain_ok (omega arith) (omega arith) (_, refl) (omega arith)
 
 module _ (x : Images) where
   abbrev writing : Machine
-  writing = after (onMachine plain) (pageStarted 0) (machineAtStart plain x)
+  writing = after (on_machine plain) (page_started 0) (machine_at_start plain x)
 
-  pub pageCut-settled : Answered pageCut x 0
-  unfolding filter keep All after playOn movedOf flashAfter eepromAfter shown shownAs goesOn
-  pageCut-settled =
-      let last = stamp-passes (onMachine plain) (onL 10 SupplyOff ∷ []) [] 10 (refl, tt) tt refl writing refl
-      (one-channel (onMachine plain) L (onL 10 SupplyOff ∷ []) (refl, tt) writing) refl _ (means-end (onMachine plain) _ refl) in (
+  pub page_cut_settled : Answered page_cut x 0
+  unfolding filter keep All after play_on moved_of flash_after eeprom_after shown shown_as goes_on
+  page_cut_settled =
+      let last = stamp_passes (on_machine plain) (on_l 10 SupplyOff ∷ []) [] 10 (refl, tt) tt refl writing refl
+      (one_channel (on_machine plain) L (on_l 10 SupplyOff ∷ []) (refl, tt) writing) refl _ (means_end (on_machine plain) _ refl) in (
         _,
-        stamp-passes (onMachine plain) (pageStarted 0) (onL 10 SupplyOff ∷ []) 0 (refl, (refl, (refl, (refl, (refl, (refl, tt)))))) (omega arith, tt) refl (machineAtStart plain x) refl
-            (one-channel (onMachine plain) E (pageStarted 0) (refl, (refl, (refl, (refl, (refl, (refl, tt)))))) (machineAtStart plain x)) refl _ last,
+        stamp_passes (on_machine plain) (page_started 0) (on_l 10 SupplyOff ∷ []) 0 (refl, (refl, (refl, (refl, (refl, (refl, tt)))))) (omega arith, tt) refl (machine_at_start plain x) refl
+            (one_channel (on_machine plain) E (page_started 0) (refl, (refl, (refl, (refl, (refl, (refl, tt)))))) (machine_at_start plain x)) refl _ last,
         refl,
       )

@@ -11,14 +11,14 @@ use Rattle.record.specs.declared.Record.{Record}
 use Rattle.image.specs.Images.{Images}
 use Rattle.field.specs.Decimal.{largest}
 use Rattle.line.specs.Records.{RecordOk}
-use Rattle.machine.specs.Machine.{machineAtStart, onMachine}
+use Rattle.machine.specs.Machine.{machine_at_start, on_machine}
 use Rattle.text.specs.Texts.{Readable}
 
-pub readable-back : {text : List ℕ} {b : Board} {rs : List Record} → Readable text b rs → meaning.NeverBack (onMachine b) rs
-readable-back {text} {b} {rs} q = q.acceptable.never_back
+pub readable_back : {text : List ℕ} {b : Board} {rs : List Record} → Readable text b rs → meaning.NeverBack (on_machine b) rs
+readable_back {text} {b} {rs} q = q.acceptable.never_back
 
-pub stamps-fit : (rs : List Record) → All RecordOk rs → All (λ (r : Record). r.stamp ≤ largest) rs
-stamps-fit rs h = all_map RecordOk (λ (r : Record). r.stamp ≤ largest) (λ r o. o.0) rs h
+pub stamps_fit : (rs : List Record) → All RecordOk rs → All (λ (r : Record). r.stamp ≤ largest) rs
+stamps_fit rs h = all_map RecordOk (λ (r : Record). r.stamp ≤ largest) (λ r o. o.0) rs h
 
-pub status-known : (b : Board) (x : Images) → (onMachine b).lost (machineAtStart b x) ≡ false
-status-known b x = refl
+pub status_known : (b : Board) (x : Images) → (on_machine b).lost (machine_at_start b x) ≡ false
+status_known b x = refl

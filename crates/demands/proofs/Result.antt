@@ -5,7 +5,7 @@ use Prim.Native.Nat.{ℕ, ◌≤◌, ◌+◌, ◌*◌, ◌/◌, ◌%◌}
 use native.Mathlib.Omega.{arith}
 use lib.ListN.{get_or}
 use Rattle.field.specs.Decimal.{largest}
-use Rattle.buffers.specs.Buffers.{resultBytes}
+use Rattle.buffers.specs.Buffers.{result_bytes}
 
 -- 'four bytes each, low byte first': the number that four bytes stand for
 abbrev pub word_of : ℕ → ℕ → ℕ → ℕ → ℕ
@@ -25,14 +25,14 @@ bytes_one : (a b : ℕ) → a ≤ largest → b ≤ largest → a % 256 ≡ b % 
 bytes_one a b h k p q r s = word_back a h ∙ (λ i. word_of (p i) (q i) (r i) (s i)) ∙ sym (word_back b k)
 
 -- so the result says its line or stamp, and its field
-module _ (a n c f a' n' c' f' : ℕ) (e : resultBytes a n c f ≡ resultBytes a' n' c' f') where
-  at : (k : ℕ) → get_or (resultBytes a n c f) k 0 ≡ get_or (resultBytes a' n' c' f') k 0
+module _ (a n c f a' n' c' f' : ℕ) (e : result_bytes a n c f ≡ result_bytes a' n' c' f') where
+  at : (k : ℕ) → get_or (result_bytes a n c f) k 0 ≡ get_or (result_bytes a' n' c' f') k 0
   at k = ap (λ (l : List ℕ). get_or l k 0) e
 
-  pub number-one : n ≤ largest → n' ≤ largest → n ≡ n'
-  unfolding resultBytes
-  number-one h k = bytes_one n n' h k (at 4) (at 5) (at 6) (at 7)
+  pub number_one : n ≤ largest → n' ≤ largest → n ≡ n'
+  unfolding result_bytes
+  number_one h k = bytes_one n n' h k (at 4) (at 5) (at 6) (at 7)
 
-  pub field-one : f ≤ largest → f' ≤ largest → f ≡ f'
-  unfolding resultBytes
-  field-one h k = bytes_one f f' h k (at 12) (at 13) (at 14) (at 15)
+  pub field_one : f ≤ largest → f' ≤ largest → f ≡ f'
+  unfolding result_bytes
+  field_one h k = bytes_one f f' h k (at 12) (at 13) (at 14) (at 15)

@@ -10,101 +10,101 @@ use Rattle.meaning.proofs.Allowing.{itself}
 use Rattle.meaning.specs.Listing.{said}
 use Rattle.record.specs.declared.Record.{Record}
 use Rattle.record.specs.declared.FlashEvent.TheVariants as flash
-use Rattle.cell.specs.Rules.{erasedCell, storedCell, doubtfulCell}
+use Rattle.cell.specs.Rules.{erased_cell, stored_cell, doubtful_cell}
 use Rattle.record.specs.declared.Chip.{Chip}
 use Rattle.image.specs.Image.{cell_at}
-use Rattle.image.specs.Images.{Images, keptBytes}
-use Rattle.image.proofs.AtPlace.{programPage-erased}
-use Rattle.controls.specs.Play.{movedOf}
-use Rattle.machine.specs.Effects.{flashAfter, eepromAfter}
-use Rattle.machine.proofs.EepromWritten.{cut-in-page}
+use Rattle.image.specs.Images.{Images, kept_bytes}
+use Rattle.image.proofs.AtPlace.{program_page_erased}
+use Rattle.controls.specs.Play.{moved_of}
+use Rattle.machine.specs.Effects.{flash_after, eeprom_after}
+use Rattle.machine.proofs.EepromWritten.{cut_in_page}
 use Rattle.machine.specs.Replies.{delivered, compared}
-use Rattle.machine.specs.Machine.{machineAtStart, onMachine, playOn, saysOn}
-use Rattle.text.specs.Texts.{spelledTrace}
-use Rattle.buffers.specs.Buffers.{Buffers, fit, resultBytes}
-use Rattle.buffers.proofs.Fit.{fit-says}
-use Rattle.call.specs.Replay.{Ended, countTwos, Replays}
-use Rattle.record.specs.Records.{onF}
+use Rattle.machine.specs.Machine.{machine_at_start, on_machine, play_on, says_on}
+use Rattle.text.specs.Texts.{spelled_trace}
+use Rattle.buffers.specs.Buffers.{Buffers, fit, result_bytes}
+use Rattle.buffers.proofs.Fit.{fit_says}
+use Rattle.call.specs.Replay.{Ended, count_twos, Replays}
+use Rattle.record.specs.Records.{on_f}
 use Rattle.demands.specs.Bench.{plain, wren, Answered}
 use Rattle.demands.proofs.BenchCases.{case11, case12}
-use Rattle.demands.proofs.Readable.{readable-back}
-use Rattle.demands.proofs.Stops.{means-shown, settled-shows}
-use Rattle.demands.proofs.Replies.{each-reply, settled-count}
-use Rattle.demands.proofs.Entries.{entry-bytes}
-use Rattle.demands.proofs.Lent.{erased, erased-fits, erased-flash, erased-eeprom}
-use Rattle.demands.specs.Worked.{pageCut}
-use Rattle.demands.specs.ShutOut.{listing, wrenOff, programOff, sent, programmed, ShutOut}
-use Rattle.demands.proofs.FourTexts.{Written, listing-written, wrenOff-written, programOff-written, programmed-written, listing-settled, programmed-settled}
-use Rattle.demands.proofs.PageCut.{pageCut-written, pageCut-settled}
-use Rattle.demands.proofs.TypedWrong.{typed-wrong-told, typed-wrong-first-told}
+use Rattle.demands.proofs.Readable.{readable_back}
+use Rattle.demands.proofs.Stops.{means_shown, settled_shows}
+use Rattle.demands.proofs.Replies.{each_reply, settled_count}
+use Rattle.demands.proofs.Entries.{entry_bytes_lem}
+use Rattle.demands.proofs.Lent.{erased, erased_fits, erased_flash, erased_eeprom}
+use Rattle.demands.specs.Worked.{page_cut}
+use Rattle.demands.specs.ShutOut.{listing, wren_off, program_off, sent, programmed, ShutOut}
+use Rattle.demands.proofs.FourTexts.{Written, listing_written, wren_off_written, program_off_written, programmed_written, listing_settled, programmed_settled}
+use Rattle.demands.proofs.PageCut.{page_cut_written, page_cut_settled}
+use Rattle.demands.proofs.TypedWrong.{typed_wrong_told, typed_wrong_first_told}
 
 -- ---- any outcome for a short text on buffers that fit
 module _ (x : Buffers) (h : fit x ≡ true) {e : Ended} where
   -- it has the answer that the demand admits
-  answers : (rs : List Record) → Written plain rs → (n : ℕ) → Answered rs x.images n → Replays (spelledTrace plain rs) x e → e.answer ≡ n
-  answers rs w n z p = ap (λ (y : Ended). y.answer) (means-shown p h w.short w.reads z.0 z.1) ∙ z.2
+  answers : (rs : List Record) → Written plain rs → (n : ℕ) → Answered rs x.images n → Replays (spelled_trace plain rs) x e → e.answer ≡ n
+  answers rs w n z p = ap (λ (y : Ended). y.answer) (means_shown p h w.short w.reads z.0 z.1) ∙ z.2
 
   -- the listing's text settles, whatever byte was recorded for the status, and its count is that of its lines
-  listing-settles : (so : ℕ) → so < 256 → Replays (spelledTrace plain (listing so)) x e → e.answer ≡ 0
-  listing-settles so k = answers (listing so) (listing-written so k) 0 (listing-settled x.images so)
+  listing_settles : (so : ℕ) → so < 256 → Replays (spelled_trace plain (listing so)) x e → e.answer ≡ 0
+  listing_settles so k = answers (listing so) (listing_written so k) 0 (listing_settled x.images so)
 
-  counted : (so : ℕ) → so < 256 → Replays (spelledTrace plain (listing so)) x e → e.buffers.result ≡ resultBytes 0 0 (countTwos (listing so) (said (onMachine plain) (listing so) (machineAtStart plain x.images))) 0
-  counted so k p = settled-count p h (listing-written so k).short (listing-written so k).reads (listing-settles so k p)
+  counted : (so : ℕ) → so < 256 → Replays (spelled_trace plain (listing so)) x e → e.buffers.result ≡ result_bytes 0 0 (count_twos (listing so) (said (on_machine plain) (listing so) (machine_at_start plain x.images))) 0
+  counted so k p = settled_count p h (listing_written so k).short (listing_written so k).reads (listing_settles so k p)
 
-  counts-none : Replays (spelledTrace plain (listing 0x00)) x e → e.buffers.result ≡ resultBytes 0 0 0 0
-  unfolding countTwos said playOn saysOn movedOf delivered compared flashAfter eepromAfter
-  counts-none = counted 0x00 (omega arith)
+  counts_none : Replays (spelled_trace plain (listing 0x00)) x e → e.buffers.result ≡ result_bytes 0 0 0 0
+  unfolding count_twos said play_on says_on moved_of delivered compared flash_after eeprom_after
+  counts_none = counted 0x00 (omega arith)
 
-  counts-one : Replays (spelledTrace plain (listing 0x01)) x e → e.buffers.result ≡ resultBytes 0 0 1 0
-  unfolding countTwos said playOn saysOn movedOf delivered compared flashAfter eepromAfter
-  counts-one = counted 0x01 (omega arith)
+  counts_one : Replays (spelled_trace plain (listing 0x01)) x e → e.buffers.result ≡ result_bytes 0 0 1 0
+  unfolding count_twos said play_on says_on moved_of delivered compared flash_after eeprom_after
+  counts_one = counted 0x01 (omega arith)
 
   -- case 1 settles; a place that was ff/00 is a5/00 after it, its page has the time of `end`, and its last record has the reply bytes 6, 0, 0, 0: the cycle ends
-  program-settles : Replays (spelledTrace plain programmed) x e → e.answer ≡ 0
-  program-settles = answers programmed programmed-written 0 (programmed-settled x.images)
+  program_settles : Replays (spelled_trace plain programmed) x e → e.answer ≡ 0
+  program_settles = answers programmed programmed_written 0 (programmed_settled x.images)
 
-  image-changes : Replays (spelledTrace plain programmed) x e → cell_at x.images.flash 0 ≡ erasedCell → cell_at e.buffers.images.flash 0 ≡ storedCell 0xa5
-  unfolding after playOn movedOf flashAfter eepromAfter
-  image-changes p k =
+  image_changes : Replays (spelled_trace plain programmed) x e → cell_at x.images.flash 0 ≡ erased_cell → cell_at e.buffers.images.flash 0 ≡ stored_cell 0xa5
+  unfolding after play_on moved_of flash_after eeprom_after
+  image_changes p k =
       ap (λ (i : Images). cell_at i.flash 0)
-      (settled-shows p h programmed-written.short programmed-written.reads (program-settles p) programmed (itself (onMachine plain) programmed (readable-back programmed-written.reads))).images
-      ∙ programPage-erased x.images.flash (keptBytes Chip.Flash) ((fit-says x h).kept Chip.Flash) 0 _ (omega arith) 0 (omega arith) k 0xa5 refl
+      (settled_shows p h programmed_written.short programmed_written.reads (program_settles p) programmed (itself (on_machine plain) programmed (readable_back programmed_written.reads))).images
+      ∙ program_page_erased x.images.flash (kept_bytes Chip.Flash) ((fit_says x h).kept Chip.Flash) 0 _ (omega arith) 0 (omega arith) k 0xa5 refl
 
-  end-told : Replays (spelledTrace plain programmed) x e → take 5 e.buffers.times ≡ 1 ∷ 30 ∷ 0 ∷ 0 ∷ 0 ∷ []
-  unfolding after playOn movedOf
-  end-told p =
+  end_told : Replays (spelled_trace plain programmed) x e → take 5 e.buffers.times ≡ 1 ∷ 30 ∷ 0 ∷ 0 ∷ 0 ∷ []
+  unfolding after play_on moved_of
+  end_told p =
       ap (take 5)
-      (settled-shows p h programmed-written.short programmed-written.reads (program-settles p) programmed (itself (onMachine plain) programmed (readable-back programmed-written.reads))).times
-      ∙ entry-bytes (after (onMachine plain) programmed (machineAtStart plain x.images)).times Chip.Flash 0 (omega arith)
+      (settled_shows p h programmed_written.short programmed_written.reads (program_settles p) programmed (itself (on_machine plain) programmed (readable_back programmed_written.reads))).times
+      ∙ entry_bytes_lem (after (on_machine plain) programmed (machine_at_start plain x.images)).times Chip.Flash 0 (omega arith)
 
-  last-stamp-played : Replays (spelledTrace plain programmed) x e → take 4 (drop 40 e.buffers.replies) ≡ 6 ∷ 0 ∷ 0 ∷ 0 ∷ []
-  unfolding after playOn saysOn movedOf delivered compared flashAfter eepromAfter
-  last-stamp-played p =
-      each-reply p h programmed-written.short programmed-written.reads (wren 10 ++ sent) (onF 30 flash.End) [] refl (program-settles p)
+  last_stamp_played : Replays (spelled_trace plain programmed) x e → take 4 (drop 40 e.buffers.replies) ≡ 6 ∷ 0 ∷ 0 ∷ 0 ∷ []
+  unfolding after play_on says_on moved_of delivered compared flash_after eeprom_after
+  last_stamp_played p =
+      each_reply p h programmed_written.short programmed_written.reads (wren 10 ++ sent) (on_f 30 flash.End) [] refl (program_settles p)
 
   -- a page write that is cut settles, and its whole page is in doubt
-  cut-settles : Replays (spelledTrace plain pageCut) x e → e.answer ≡ 0
-  cut-settles = answers pageCut pageCut-written 0 (pageCut-settled x.images)
+  cut_settles : Replays (spelled_trace plain page_cut) x e → e.answer ≡ 0
+  cut_settles = answers page_cut page_cut_written 0 (page_cut_settled x.images)
 
-  page-doubtful : Replays (spelledTrace plain pageCut) x e → cell_at e.buffers.images.eeprom 0x0040 ≡ doubtfulCell
-  unfolding after playOn movedOf flashAfter eepromAfter
-  page-doubtful p =
+  page_doubtful : Replays (spelled_trace plain page_cut) x e → cell_at e.buffers.images.eeprom 0x0040 ≡ doubtful_cell
+  unfolding after play_on moved_of flash_after eeprom_after
+  page_doubtful p =
       ap (λ (i : Images). cell_at i.eeprom 0x0040)
-      (settled-shows p h pageCut-written.short pageCut-written.reads (cut-settles p) pageCut (itself (onMachine plain) pageCut (readable-back pageCut-written.reads))).images
-      ∙ cut-in-page 0x007f (0x11 ∷ []) x.images.eeprom 0x0040 (omega arith) ((fit-says x h).kept Chip.Eeprom) refl
+      (settled_shows p h page_cut_written.short page_cut_written.reads (cut_settles p) page_cut (itself (on_machine plain) page_cut (readable_back page_cut_written.reads))).images
+      ∙ cut_in_page 0x007f (0x11 ∷ []) x.images.eeprom 0x0040 (omega arith) ((fit_says x h).kept Chip.Eeprom) refl
 
 pub shut_out : ShutOut
 shut_out = record {
-  refuses-everything = λ x e h. listing-settles x h 0x00 (omega arith);
-  always-settled = λ x e h. answers x h programOff programOff-written 7 (case12 x.images);
-  always-differs = λ x e h. answers x h wrenOff wrenOff-written 0 (case11 x.images);
-  leaves-the-images = λ x e h. image-changes x h;
-  plays-the-first-stamp = λ x e h. last-stamp-played x h;
-  counts-none = λ x e h. counts-none x h;
-  counts-one = λ x e h. counts-one x h;
-  doubts-only-the-sent = λ x e h. page-doubtful x h;
-  tells-another-time = λ x e h. end-told x h;
-  tells-another-field = typed-wrong-told;
-  tells-another-field-first = typed-wrong-first-told;
-  some_fit = (erased, erased-fits, erased-flash, erased-eeprom);
+  refuses_everything = λ x e h. listing_settles x h 0x00 (omega arith);
+  always_settled = λ x e h. answers x h program_off program_off_written 7 (case12 x.images);
+  always_differs = λ x e h. answers x h wren_off wren_off_written 0 (case11 x.images);
+  leaves_the_images = λ x e h. image_changes x h;
+  plays_the_first_stamp = λ x e h. last_stamp_played x h;
+  counts_none = λ x e h. counts_none x h;
+  counts_one = λ x e h. counts_one x h;
+  doubts_only_the_sent = λ x e h. page_doubtful x h;
+  tells_another_time = λ x e h. end_told x h;
+  tells_another_field = typed_wrong_told;
+  tells_another_field_first = typed_wrong_first_told;
+  some_fit = (erased, erased_fits, erased_flash, erased_eeprom);
 }

@@ -8,43 +8,43 @@ use native.Mathlib.Omega.{arith}
 use lib.Dec.{eqb}
 use borrow.Author.Tests.{eqb-true, eqb-false, ne_eqb}
 use Rattle.law.specs.declared.Numbers.{Numbers}
-use Rattle.law.specs.Choice.{split, lt-or-le}
-use Rattle.law.specs.Deciding.{Decides, decides-true, decides-false, decides-as, eqb-decides, beq-decides}
+use Rattle.law.specs.Choice.{split, lt_or_le}
+use Rattle.law.specs.Deciding.{Decides, decides_true, decides_false, decides_as, eqb_decides, beq_decides}
 use Rattle.law.specs.Words.{All}
 use Rattle.meaning.specs.Meaning.{Channel, Outcome, after, outcome}
 use Rattle.meaning.specs.Channels.{channels}
-use Rattle.meaning.proofs.Channels.{every-channel}
+use Rattle.meaning.proofs.Channels.{every_channel}
 use Rattle.record.specs.declared.Board.{Board}
 use Rattle.record.specs.declared.Lines.{Lines}
 use Rattle.record.specs.declared.Record.{Record}
 use Rattle.record.specs.declared.Reply.{Reply}
-use Rattle.record.specs.Replies.{replyKind, replyValue, replyMask}
-use Rattle.record.specs.ReplyOf.{replyOf}
-use Rattle.record.proofs.ReplyOf.{reply-back}
+use Rattle.record.specs.Replies.{reply_kind, reply_value, reply_mask}
+use Rattle.record.specs.ReplyOf.{reply_of}
+use Rattle.record.proofs.ReplyOf.{reply_back}
 use Rattle.flash.specs.declared.Flash.{Flash}
 use Rattle.flash.specs.Equal as flash-equal
 use Rattle.eeprom.specs.declared.Eeprom.{Eeprom}
 use Rattle.eeprom.specs.Same as eeprom-same
 use Rattle.eeprom.proofs.ByNumbers as eeprom-equal
 use Rattle.controls.specs.declared.Controls.{Controls}
-use Rattle.controls.specs.Play.{movedOf}
+use Rattle.controls.specs.Play.{moved_of}
 use Rattle.image.specs.Image.{Image}
 use Rattle.image.specs.Images.{Images}
 use Rattle.times.specs.declared.Pages.{Pages}
 use Rattle.times.specs.declared.Pages.TheVariants as pages
-use Rattle.times.specs.Times.{Time, never, written, Times, timedAt}
-use Rattle.machine.specs.Effects.{touchedBy}
-use Rattle.machine.specs.Machine.{Machine, machineAtStart, onMachine, playOn}
+use Rattle.times.specs.Times.{Time, never, written, Times, timed_at}
+use Rattle.machine.specs.Effects.{touched_by}
+use Rattle.machine.specs.Machine.{Machine, machine_at_start, on_machine, play_on}
 
 -- it can be told whether P holds
 abbrev Tells : Type 0 → Type 0
 Tells P = (t : Bool) × Decides t P
 
 yes : {P : Type 0} → P → Tells P
-yes p = (true, decides-true p)
+yes p = (true, decides_true p)
 
 no : {P : Type 0} → (P → ⊥) → Tells P
-no n = (false, decides-false n)
+no n = (false, decides_false n)
 
 both : {P Q : Type 0} → Tells P → Tells Q → Tells (P × Q)
 both p q =
@@ -52,13 +52,13 @@ both p q =
 
 -- P and R are one question
 same : {P R : Type 0} → Tells P → (P → R) → (R → P) → Tells R
-same p f g = (p.0, decides-as p.1 f g)
+same p f g = (p.0, decides_as p.1 f g)
 
 number : (a b : ℕ) → Tells (a ≡ b)
-number a b = (eqb a b, eqb-decides a b)
+number a b = (eqb a b, eqb_decides a b)
 
 flag : (a b : Bool) → Tells (a ≡ b)
-flag a b = (beq a b, beq-decides a b)
+flag a b = (beq a b, beq_decides a b)
 
 list : {X : Type 0} → ((a b : X) → Tells (a ≡ b)) → (l k : List X) → Tells (l ≡ k)
 list tell [] [] = yes refl
@@ -78,18 +78,18 @@ numbers a b =
 
 flash : (a b : Flash) → Tells (a ≡ b)
 flash a b =
-    let f : Tells (a.frame ≡ b.frame) = let n = numbers (flash-equal.frameNumbers a.frame) (flash-equal.frameNumbers b.frame) in (n.0, flash-equal.frame_right _ _ n.1) in
-    let c : Tells (a.cycle ≡ b.cycle) = let n = numbers (flash-equal.cycleNumbers a.cycle) (flash-equal.cycleNumbers b.cycle) in (n.0, flash-equal.cycle-right _ _ n.1) in
-    let s : Tells (a.status ≡ b.status) = let n = numbers (flash-equal.statusNumbers a.status) (flash-equal.statusNumbers b.status) in (n.0, flash-equal.status-right _ _ n.1) in
+    let f : Tells (a.frame ≡ b.frame) = let n = numbers (flash-equal.frame_numbers a.frame) (flash-equal.frame_numbers b.frame) in (n.0, flash-equal.frame_right _ _ n.1) in
+    let c : Tells (a.cycle ≡ b.cycle) = let n = numbers (flash-equal.cycle_numbers a.cycle) (flash-equal.cycle_numbers b.cycle) in (n.0, flash-equal.cycle_right _ _ n.1) in
+    let s : Tells (a.status ≡ b.status) = let n = numbers (flash-equal.status_numbers a.status) (flash-equal.status_numbers b.status) in (n.0, flash-equal.status_right _ _ n.1) in
     same (both f (both c (both s (bytes a.page b.page))))
     (λ p i. record { frame = p.0 i; cycle = p.1.0 i; status = p.1.1.0 i; page = p.1.1.1 i })
     (λ e. (ap (λ (k : Flash). k.frame) e, (ap (λ (k : Flash). k.cycle) e, (ap (λ (k : Flash). k.status) e, ap (λ (k : Flash). k.page) e))))
 
 eeprom : (a b : Eeprom) → Tells (a ≡ b)
 eeprom a b =
-    let f : Tells (a.frame ≡ b.frame) = let n = numbers (eeprom-same.frameNumbers a.frame) (eeprom-same.frameNumbers b.frame) in (n.0, eeprom-equal.frame_right _ _ n.1) in
-    let c : Tells (a.cycle ≡ b.cycle) = let n = numbers (eeprom-same.cycleNumbers a.cycle) (eeprom-same.cycleNumbers b.cycle) in (n.0, eeprom-equal.cycle-right _ _ n.1) in
-    let s : Tells (a.counter ≡ b.counter) = let n = numbers (eeprom-same.counterNumbers a.counter) (eeprom-same.counterNumbers b.counter) in (n.0, eeprom-equal.counter-right _ _ n.1) in
+    let f : Tells (a.frame ≡ b.frame) = let n = numbers (eeprom-same.frame_numbers a.frame) (eeprom-same.frame_numbers b.frame) in (n.0, eeprom-equal.frame_right _ _ n.1) in
+    let c : Tells (a.cycle ≡ b.cycle) = let n = numbers (eeprom-same.cycle_numbers a.cycle) (eeprom-same.cycle_numbers b.cycle) in (n.0, eeprom-equal.cycle_right _ _ n.1) in
+    let s : Tells (a.counter ≡ b.counter) = let n = numbers (eeprom-same.counter_numbers a.counter) (eeprom-same.counter_numbers b.counter) in (n.0, eeprom-equal.counter_right _ _ n.1) in
     same (both f (both c (both s (bytes a.page b.page))))
     (λ p i. record { frame = p.0 i; cycle = p.1.0 i; counter = p.1.1.0 i; page = p.1.1.1 i })
     (λ e. (ap (λ (k : Eeprom). k.frame) e, (ap (λ (k : Eeprom). k.cycle) e, (ap (λ (k : Eeprom). k.counter) e, ap (λ (k : Eeprom). k.page) e))))
@@ -137,14 +137,14 @@ module _ (y z : ℕ → Time) (f : OneFrom y) (g : OneFrom z) where
   abbrev far : ℕ
   far = f.0 + g.0
 
-  all-pages : ((n : ℕ) → n < suc far → y n ≡ z n) → (n : ℕ) → y n ≡ z n
-  all-pages h n =
-      ⊎_elim (h n) (λ l. f.1 n (omega arith) ∙ sym (f.1 far (omega arith)) ∙ h far (omega arith) ∙ g.1 far (omega arith) ∙ sym (g.1 n (omega arith))) (lt-or-le n (suc far))
+  all_pages : ((n : ℕ) → n < suc far → y n ≡ z n) → (n : ℕ) → y n ≡ z n
+  all_pages h n =
+      ⊎_elim (h n) (λ l. f.1 n (omega arith) ∙ sym (f.1 far (omega arith)) ∙ h far (omega arith) ∙ g.1 far (omega arith) ∙ sym (g.1 n (omega arith))) (lt_or_le n (suc far))
 
-  page-times : Tells (y ≡ z)
-  page-times = same (below (λ n. y n ≡ z n) (λ n. time (y n) (z n)) (suc far)) (λ h i n. all-pages h n i) (λ e n l. ap (λ (w : ℕ → Time). w n) e)
+  page_times : Tells (y ≡ z)
+  page_times = same (below (λ n. y n ≡ z n) (λ n. time (y n) (z n)) (suc far)) (λ h i n. all_pages h n i) (λ e n l. ap (λ (w : ℕ → Time). w n) e)
 
-timed : (t : ℕ) (p : Pages) (y : ℕ → Time) → OneFrom y → OneFrom (timedAt t p y)
+timed : (t : ℕ) (p : Pages) (y : ℕ → Time) → OneFrom y → OneFrom (timed_at t p y)
 timed t pages.None y h = h
 timed t (pages.One k) y h = (
   h.0 + suc k,
@@ -157,24 +157,24 @@ pub record Steady (m : Machine) : Type 0 where
   pub flash : OneFrom m.times.flash
   pub eeprom : OneFrom m.times.eeprom
 
-pub steady-start : (b : Board) (x : Images) → Steady (machineAtStart b x)
-steady-start b x = record { flash = (0, λ n l. refl); eeprom = (0, λ n l. refl) }
+pub steady_start : (b : Board) (x : Images) → Steady (machine_at_start b x)
+steady_start b x = record { flash = (0, λ n l. refl); eeprom = (0, λ n l. refl) }
 
 module _ (b : Board) where
-  steady-play : (m : Machine) (r : Record) → Steady m → Steady (playOn b m r)
-  unfolding playOn
-  steady-play m r s =
-      let x = touchedBy b m.controls r.event (movedOf b m.controls r).reply in
+  steady_play : (m : Machine) (r : Record) → Steady m → Steady (play_on b m r)
+  unfolding play_on
+  steady_play m r s =
+      let x = touched_by b m.controls r.event (moved_of b m.controls r).reply in
       record { flash = timed r.stamp x.flash m.times.flash s.flash; eeprom = timed r.stamp x.eeprom m.times.eeprom s.eeprom }
 
-  pub steady-after : (o : List Record) (m : Machine) → Steady m → Steady (after (onMachine b) o m)
+  pub steady_after : (o : List Record) (m : Machine) → Steady m → Steady (after (on_machine b) o m)
   unfolding after
-  steady-after [] m s = s
-  steady-after (r ∷ o) m s = steady-after o (playOn b m r) (steady-play m r s)
+  steady_after [] m s = s
+  steady_after (r ∷ o) m s = steady_after o (play_on b m r) (steady_play m r s)
 
 times : (a b : Machine) → Steady a → Steady b → Tells (a.times ≡ b.times)
 times a b s z =
-    same (both (page-times _ _ s.flash z.flash) (page-times _ _ s.eeprom z.eeprom)) (λ p i. record { flash = p.0 i; eeprom = p.1 i })
+    same (both (page_times _ _ s.flash z.flash) (page_times _ _ s.eeprom z.eeprom)) (λ p i. record { flash = p.0 i; eeprom = p.1 i })
     (λ e. (ap (λ (k : Times). k.flash) e, ap (λ (k : Times). k.eeprom) e))
 
 machine : (a b : Machine) → Steady a → Steady b → Tells (a ≡ b)
@@ -186,24 +186,24 @@ machine a b s z =
 -- ---- a reply, by its kind, its value and its mask
 reply : (a b : Reply) → Tells (a ≡ b)
 reply a b =
-    same (both (number (replyKind a) (replyKind b)) (both (number (replyValue a) (replyValue b)) (number (replyMask a) (replyMask b))))
-    (λ p. sym (reply-back a) ∙ (λ i. replyOf (p.0 i) (p.1.0 i) (p.1.1 i)) ∙ reply-back b)
-    (λ e. (ap replyKind e, (ap replyValue e, ap replyMask e)))
+    same (both (number (reply_kind a) (reply_kind b)) (both (number (reply_value a) (reply_value b)) (number (reply_mask a) (reply_mask b))))
+    (λ p. sym (reply_back a) ∙ (λ i. reply_of (p.0 i) (p.1.0 i) (p.1.1 i)) ∙ reply_back b)
+    (λ e. (ap reply_kind e, (ap reply_value e, ap reply_mask e)))
 
 -- ---- each channel's
 module _ (P : Channel → Type 0) where
-  tell-each : ((c : Channel) → Tells (P c)) → (cs : List Channel) → Tells (All P cs)
+  tell_each : ((c : Channel) → Tells (P c)) → (cs : List Channel) → Tells (All P cs)
   unfolding All
-  tell-each t [] = yes tt
-  tell-each t (c ∷ cs) = both (t c) (tell-each t cs)
+  tell_each t [] = yes tt
+  tell_each t (c ∷ cs) = both (t c) (tell_each t cs)
 
-  for-each : ((c : Channel) → P c) → (cs : List Channel) → All P cs
+  for_each : ((c : Channel) → P c) → (cs : List Channel) → All P cs
   unfolding All
-  for-each h [] = tt
-  for-each h (c ∷ cs) = (h c, for-each h cs)
+  for_each h [] = tt
+  for_each h (c ∷ cs) = (h c, for_each h cs)
 
   each : ((c : Channel) → Tells (P c)) → Tells ((c : Channel) → P c)
-  each t = same (tell-each t channels) (every-channel P) (λ h. for-each h channels)
+  each t = same (tell_each t channels) (every_channel P) (λ h. for_each h channels)
 
 outcomes : (a b : Outcome Machine Reply) → Steady a.state → Steady b.state → Tells (a ≡ b)
 outcomes a b s z =
@@ -212,7 +212,7 @@ outcomes a b s z =
     (λ e. (ap (λ (k : Outcome Machine Reply). k.state) e, λ c. ap (λ (k : Outcome Machine Reply). k.replies c) e))
 
 -- how two orders end
-pub tell : (b : Board) (o q : List Record) (m : Machine) → Steady m → (outcome (onMachine b) o m ≡ outcome (onMachine b) q m) ⊎ (outcome (onMachine b) o m ≡ outcome (onMachine b) q m → ⊥)
+pub tell : (b : Board) (o q : List Record) (m : Machine) → Steady m → (outcome (on_machine b) o m ≡ outcome (on_machine b) q m) ⊎ (outcome (on_machine b) o m ≡ outcome (on_machine b) q m → ⊥)
 tell b o q m s =
-    let t = outcomes (outcome (onMachine b) o m) (outcome (onMachine b) q m) (steady-after b o m s) (steady-after b q m s) in
+    let t = outcomes (outcome (on_machine b) o m) (outcome (on_machine b) q m) (steady_after b o m s) (steady_after b q m s) in
     split t.0 (λ e. inl (t.1.holds e)) (λ e. inr (t.1.fails e))

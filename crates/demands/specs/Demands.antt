@@ -5,8 +5,8 @@ use Rattle.meaning.specs.Meaning.{Allowed}
 use Rattle.record.specs.declared.Board.{Board}
 use Rattle.record.specs.declared.Record.{Record}
 use Rattle.image.specs.Images.{Images, Kept}
-use Rattle.machine.specs.Machine.{onMachine}
-use Rattle.text.specs.Texts.{spelledTrace, Readable}
+use Rattle.machine.specs.Machine.{on_machine}
+use Rattle.text.specs.Texts.{spelled_trace, Readable}
 use Rattle.buffers.specs.Buffers.{Buffers}
 use Rattle.call.specs.Replay.{Ended, Replays}
 use Rattle.demands.specs.Grounds.{Taken, Grounds, Refusals}
@@ -28,7 +28,7 @@ pub record Demands (text : List ℕ) (x : Buffers) (e : Ended) : Type 0 where
   -- 9
   pub doubt : Doubt text x e
   -- 10
-  pub reordered : (b : Board) (rs ls : List Record) (e' : Ended) → Readable text b rs → Allowed (onMachine b) rs ls → Replays (spelledTrace b ls) x e' → Reordered text x b rs ls e e'
+  pub reordered : (b : Board) (rs ls : List Record) (e' : Ended) → Readable text b rs → Allowed (on_machine b) rs ls → Replays (spelled_trace b ls) x e' → Reordered text x b rs ls e e'
   -- 11. there is no other outcome
   pub determined : (e' : Ended) → Replays text x e' → e ≡ e'
 

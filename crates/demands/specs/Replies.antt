@@ -5,24 +5,24 @@ use Rattle.meaning.specs.Meaning.{after}
 use Rattle.record.specs.declared.Board.{Board}
 use Rattle.record.specs.declared.Record.{Record}
 use Rattle.field.specs.Decimal.{largest}
-use Rattle.machine.specs.Machine.{machineAtStart, onMachine, saysOn}
-use Rattle.buffers.specs.Buffers.{Buffers, resultBytes}
-use Rattle.call.specs.Play.{replyLine}
+use Rattle.machine.specs.Machine.{machine_at_start, on_machine, says_on}
+use Rattle.buffers.specs.Buffers.{Buffers, result_bytes}
+use Rattle.call.specs.Play.{reply_line}
 use Rattle.call.specs.Replay.{Ended}
 
 -- of reply bytes, four for each record: how many records have the match 2, their fourth byte
-unfoldable pub matchesTwo : List ℕ → ℕ
-matchesTwo [] = 0
-matchesTwo (k ∷ []) = 0
-matchesTwo (k ∷ (v ∷ [])) = 0
-matchesTwo (k ∷ (v ∷ (m ∷ []))) = 0
-matchesTwo (k ∷ (v ∷ (m ∷ (d ∷ w)))) = pick (eqb d 2) 1 0 + matchesTwo w
+unfoldable pub matches_two : List ℕ → ℕ
+matches_two [] = 0
+matches_two (k ∷ []) = 0
+matches_two (k ∷ (v ∷ [])) = 0
+matches_two (k ∷ (v ∷ (m ∷ []))) = 0
+matches_two (k ∷ (v ∷ (m ∷ (d ∷ w)))) = pick (eqb d 2) 1 0 + matches_two w
 
 pub record Replies (x : Buffers) (e : Ended) (b : Board) (rs : List Record) : Type 0 where
   -- 7. settled: after the records o before it, at 4 times their number, stands what the machine then says to a record; and its kind is not 0
-  pub each-reply : e.answer ≡ 0 → (o : List Record) (r : Record) (more : List Record) → rs ≡ o ++ (r ∷ more) →
-      take 4 (drop (4 * length o) e.buffers.replies) ≡ replyLine r (saysOn b (after (onMachine b) o (machineAtStart b x.images)) r)
-  pub each-played : e.answer ≡ 0 → (o : List Record) (r : Record) (more : List Record) → rs ≡ o ++ (r ∷ more) → 1 ≤ get_or e.buffers.replies (4 * length o) 0
+  pub each_reply : e.answer ≡ 0 → (o : List Record) (r : Record) (more : List Record) → rs ≡ o ++ (r ∷ more) →
+      take 4 (drop (4 * length o) e.buffers.replies) ≡ reply_line r (says_on b (after (on_machine b) o (machine_at_start b x.images)) r)
+  pub each_played : e.answer ≡ 0 → (o : List Record) (r : Record) (more : List Record) → rs ≡ o ++ (r ∷ more) → 1 ≤ get_or e.buffers.replies (4 * length o) 0
   -- 8. the result holds the answer, a stamp, the number of matches 2 in the replies, counted on their bytes, and no field; four bytes hold the number
-  pub count-is : (t : ℕ) × (e.buffers.result ≡ resultBytes e.answer t (matchesTwo e.buffers.replies) 0)
-  pub count_fits : matchesTwo e.buffers.replies ≤ largest
+  pub count_is : (t : ℕ) × (e.buffers.result ≡ result_bytes e.answer t (matches_two e.buffers.replies) 0)
+  pub count_fits : matches_two e.buffers.replies ≤ largest

@@ -4,7 +4,7 @@ use Rattle.meaning.specs.Meaning.{Reason, Passes, Earliest}
 use Rattle.record.specs.declared.Board.{Board}
 use Rattle.record.specs.declared.Record.{Record}
 use Rattle.controls.specs.Play.{start_of}
-use Rattle.machine.specs.Machine.{onControls}
+use Rattle.machine.specs.Machine.{on_controls}
 use Rattle.buffers.specs.Buffers.{Buffers}
 use Rattle.call.specs.Replay.{Ended, Replays}
 use Rattle.demands.specs.Grounds.{Taken}
@@ -12,8 +12,8 @@ use Rattle.demands.specs.Stops.{StopsAt}
 
 -- the call says of the records rs what demand 3 says of the controls by themselves, from their start
 pub record ByControls (e : Ended) (b : Board) (rs : List Record) : Type 0 where
-  pub stops : (n : Reason) (t : ℕ) → StopsAt e n t ↔ Earliest (onControls b) rs (start_of b) n t
-  pub settles : (e.answer ≡ 0) ↔ ((t : ℕ) → Passes (onControls b) rs (start_of b) t)
+  pub stops : (n : Reason) (t : ℕ) → StopsAt e n t ↔ Earliest (on_controls b) rs (start_of b) n t
+  pub settles : (e.answer ≡ 0) ↔ ((t : ℕ) → Passes (on_controls b) rs (start_of b) t)
 
 -- 20. so it does of every text that is taken
 abbrev pub VerdictByControls : Type 0

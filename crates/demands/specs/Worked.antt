@@ -9,15 +9,15 @@ use Rattle.record.specs.declared.Reply.{Reply}
 use Rattle.record.specs.declared.Reply.TheVariants.{Silent, Ack, Starts}
 use Rattle.meaning.specs.Meaning.{after}
 use Rattle.image.specs.Image.{Image, cell_at}
-use Rattle.image.specs.Cycles.{eraseAll}
+use Rattle.image.specs.Cycles.{erase_all}
 use Rattle.record.specs.declared.Chip.TheVariants.{Flash, Eeprom}
-use Rattle.times.specs.Times.{Time, never, written, pagesOf, firstEntry, entries, entryBytes, timesLength}
-use Rattle.machine.specs.Machine.{machineAtStart, onMachine}
+use Rattle.times.specs.Times.{Time, never, written, pages_of, first_entry, entries, entry_bytes, times_length}
+use Rattle.machine.specs.Machine.{machine_at_start, on_machine}
 use Rattle.image.specs.Images.{Images, Kept}
 use Rattle.buffers.specs.Buffers.{Buffers, fit}
-use Rattle.call.specs.Replay.{Ended, replyLines, Replays}
-use Rattle.record.specs.Records.{onF, on_e, onL}
-use Rattle.demands.specs.Bench.{boardOf, plain, opened, framed, wren, three, two, addressed, stored, cell, eepromAt, saidOn, byte_of, AllHold}
+use Rattle.call.specs.Replay.{Ended, reply_lines, Replays}
+use Rattle.record.specs.Records.{on_f, on_e, on_l}
+use Rattle.demands.specs.Bench.{board_of, plain, opened, framed, wren, three, two, addressed, stored, cell, eeprom_at, said_on, byte_of, AllHold}
 
 -- ---- 'Flash rules': 'Locked out by BP1 BP0: 00 none, 01 sector 4, 10 sectors 3 and 4, 11 all'; BP1 is bit 3 of the status, BP0 bit 2
 -- a sector erase of an address, and a PROGRAM of the byte d there
@@ -29,10 +29,10 @@ program address d = 0x02 ∷ (three address ++ (d ∷ []))
 
 -- after WREN, on a board of this status, the frame's `des` starts a cycle, or nothing
 abbrev pub Begins : ℕ → List ℕ → Images → Type 0
-Begins status bs x = saidOn (boardOf status) (wren 0 ++ framed 0 bs) x ≡ replicate (4 + length bs) Silent ++ (Starts ∷ [])
+Begins status bs x = said_on (board_of status) (wren 0 ++ framed 0 bs) x ≡ replicate (4 + length bs) Silent ++ (Starts ∷ [])
 
 abbrev pub Barred : ℕ → List ℕ → Images → Type 0
-Barred status bs x = saidOn (boardOf status) (wren 0 ++ framed 0 bs) x ≡ replicate (5 + length bs) Silent
+Barred status bs x = said_on (board_of status) (wren 0 ++ framed 0 bs) x ≡ replicate (5 + length bs) Silent
 
 -- an erase of each sector by its first place, and a PROGRAM at its last
 abbrev pub SectorBegins : ℕ → ℕ → ℕ → Images → Type 0
@@ -70,25 +70,25 @@ abbrev pub watching : ℕ → ℕ → Board
 watching status sector = record { status = status; sector = sector; address = 0 }
 
 -- 'Chip erase clears the unlocked sectors': the flash image after one that ends, by the status and the watched sector
-abbrev pub chipErased : ℕ → ℕ → Images → Image
-chipErased status sector x =
-    (after (onMachine (watching status sector)) (wren 0 ++ (framed 0 (0x62 ∷ []) ++ (onF 0 flash.End ∷ []))) (machineAtStart (watching status sector) x)).images.flash
+abbrev pub chip_erased : ℕ → ℕ → Images → Image
+chip_erased status sector x =
+    (after (on_machine (watching status sector)) (wren 0 ++ (framed 0 (0x62 ∷ []) ++ (on_f 0 flash.End ∷ []))) (machine_at_start (watching status sector) x)).images.flash
 
 abbrev pub ChipClears : Images → Type 0
 ChipClears x =
-    (chipErased 0x04 3 x ≡ eraseAll x.flash)
-    × (chipErased 0x04 4 x ≡ x.flash)
-    × (chipErased 0x08 2 x ≡ eraseAll x.flash)
-    × (chipErased 0x08 3 x ≡ x.flash)
-    × (chipErased 0x08 4 x ≡ x.flash)
+    (chip_erased 0x04 3 x ≡ erase_all x.flash)
+    × (chip_erased 0x04 4 x ≡ x.flash)
+    × (chip_erased 0x08 2 x ≡ erase_all x.flash)
+    × (chip_erased 0x08 3 x ≡ x.flash)
+    × (chip_erased 0x08 4 x ≡ x.flash)
 
 -- ---- 'EEPROM rules': 'After `sta`, byte 1010 A2 A1 A0 R/W'; 'Another address is silent'
-abbrev pub wiredAs : ℕ → Board
-wiredAs address = record { status = 0x00; sector = 1; address = address }
+abbrev pub wired_as : ℕ → Board
+wired_as address = record { status = 0x00; sector = 1; address = address }
 
 -- what a chip wired so says to an address byte after `sta`
 abbrev pub hears : ℕ → Images → ℕ → List Reply
-hears wired x b = saidOn (wiredAs wired) (addressed (b ∷ [])) x
+hears wired x b = said_on (wired_as wired) (addressed (b ∷ [])) x
 
 abbrev pub yes : List Reply
 yes = Silent ∷ Ack ∷ []
@@ -97,14 +97,14 @@ abbrev pub no : List Reply
 no = Silent ∷ Silent ∷ []
 
 -- the eight address bytes for writing, for reading, and those that are not 1010 by one bit, with A2 A1 A0 R/W 0000
-abbrev pub forWriting : List ℕ
-forWriting = 0xa0 ∷ 0xa2 ∷ 0xa4 ∷ 0xa6 ∷ 0xa8 ∷ 0xaa ∷ 0xac ∷ 0xae ∷ []
+abbrev pub for_writing : List ℕ
+for_writing = 0xa0 ∷ 0xa2 ∷ 0xa4 ∷ 0xa6 ∷ 0xa8 ∷ 0xaa ∷ 0xac ∷ 0xae ∷ []
 
-abbrev pub forReading : List ℕ
-forReading = 0xa1 ∷ 0xa3 ∷ 0xa5 ∷ 0xa7 ∷ 0xa9 ∷ 0xab ∷ 0xad ∷ 0xaf ∷ []
+abbrev pub for_reading : List ℕ
+for_reading = 0xa1 ∷ 0xa3 ∷ 0xa5 ∷ 0xa7 ∷ 0xa9 ∷ 0xab ∷ 0xad ∷ 0xaf ∷ []
 
-abbrev pub forOthers : List ℕ
-forOthers = 0x20 ∷ 0xe0 ∷ 0x80 ∷ 0xb0 ∷ []
+abbrev pub for_others : List ℕ
+for_others = 0x20 ∷ 0xe0 ∷ 0x80 ∷ 0xb0 ∷ []
 
 -- each wired address answers its own byte of the eight, and no other's
 abbrev pub Answers : List ℕ → Images → Type 0
@@ -119,47 +119,47 @@ Answers bytes x =
     × (map (hears 7 x) bytes ≡ no ∷ no ∷ no ∷ no ∷ no ∷ no ∷ no ∷ yes ∷ [])
 
 abbrev pub Wired : Images → Type 0
-Wired x = Answers forWriting x × Answers forReading x × (map (hears 0 x) forOthers ≡ replicate 4 no)
+Wired x = Answers for_writing x × Answers for_reading x × (map (hears 0 x) for_others ≡ replicate 4 no)
 
 -- ---- 'Read: the byte at the counter, which then goes on': at 3fff goes on at 4000
 abbrev pub GoesOn : Images → Type 0
 GoesOn x =
-    saidOn plain (addressed (0xa0 ∷ two 0x3fff) ++ addressed (0xa1 ∷ 0x00 ∷ 0x00 ∷ [])) x
+    said_on plain (addressed (0xa0 ∷ two 0x3fff) ++ addressed (0xa1 ∷ 0x00 ∷ 0x00 ∷ [])) x
     ≡ Silent ∷ Ack ∷ Ack ∷ Ack ∷ Silent ∷ Ack ∷ byte_of (cell_at x.eeprom 0x3fff) ∷ byte_of (cell_at x.eeprom 0x4000) ∷ []
 
 -- ---- request 3/12: 'a cut EEPROM cycle puts the whole page in doubt, 00/ff, not only the bytes sent'
 -- one byte, 11, is written to 007f, the last place of its page, with `sto` at t, and the supply goes off in the cycle
-abbrev pub pageStarted : ℕ → List Record
-pageStarted t = addressed (0xa0 ∷ (two 0x007f ++ (0x11 ∷ []))) ++ (on_e t eeprom.Stop ∷ [])
+abbrev pub page_started : ℕ → List Record
+page_started t = addressed (0xa0 ∷ (two 0x007f ++ (0x11 ∷ []))) ++ (on_e t eeprom.Stop ∷ [])
 
-abbrev pub pageCut : List Record
-pageCut = pageStarted 0 ++ (onL 10 SupplyOff ∷ [])
+abbrev pub page_cut : List Record
+page_cut = page_started 0 ++ (on_l 10 SupplyOff ∷ [])
 
 -- 0040 to 007f are 00/ff, and every place before and behind them is as it was
 abbrev pub PageInDoubt : Images → Type 0
 PageInDoubt x =
     Kept x →
-    ((k : ℕ) → 0x0040 ≤ k → k ≤ 0x007f → eepromAt pageCut x k ≡ cell 0x00 0xff)
-    × ((k : ℕ) → k < 0x0040 → eepromAt pageCut x k ≡ cell_at x.eeprom k)
-    × ((k : ℕ) → 0x007f < k → eepromAt pageCut x k ≡ cell_at x.eeprom k)
+    ((k : ℕ) → 0x0040 ≤ k → k ≤ 0x007f → eeprom_at page_cut x k ≡ cell 0x00 0xff)
+    × ((k : ℕ) → k < 0x0040 → eeprom_at page_cut x k ≡ cell_at x.eeprom k)
+    × ((k : ℕ) → 0x007f < k → eeprom_at page_cut x k ≡ cell_at x.eeprom k)
 
 -- the same, and then 22 is written to 0041, to its `end`: 0041 is 22/00, and the page's other places, 007f too, stay 00/ff
-abbrev pub pageRewritten : List Record
-pageRewritten = pageStarted 0 ++ (onL 0 SupplyOff ∷ onL 0 SupplyOn ∷ stored 0x0041 (0x22 ∷ []))
+abbrev pub page_rewritten : List Record
+page_rewritten = page_started 0 ++ (on_l 0 SupplyOff ∷ on_l 0 SupplyOn ∷ stored 0x0041 (0x22 ∷ []))
 
 abbrev pub InPartRewritten : Images → Type 0
 InPartRewritten x =
     Kept x →
-    (eepromAt pageRewritten x 0x0041 ≡ cell 0x22 0x00)
-    × ((k : ℕ) → 0x0040 ≤ k → k ≤ 0x007f → k ≢ 0x0041 → eepromAt pageRewritten x k ≡ cell 0x00 0xff)
+    (eeprom_at page_rewritten x 0x0041 ≡ cell 0x22 0x00)
+    × ((k : ℕ) → 0x0040 ≤ k → k ≤ 0x007f → k ≢ 0x0041 → eeprom_at page_rewritten x k ≡ cell 0x00 0xff)
 
 -- ---- request 1/12: 'the stamp of the last cycle that ended or was cut on it'
 -- the time of a page of the watched sector, and of one of the EEPROM, after the records
-abbrev pub flashTime : Board → List Record → Images → ℕ → Time
-flashTime b rs x n = (after (onMachine b) rs (machineAtStart b x)).times.flash n
+abbrev pub flash_time : Board → List Record → Images → ℕ → Time
+flash_time b rs x n = (after (on_machine b) rs (machine_at_start b x)).times.flash n
 
-abbrev pub eepromTime : Board → List Record → Images → ℕ → Time
-eepromTime b rs x n = (after (onMachine b) rs (machineAtStart b x)).times.eeprom n
+abbrev pub eeprom_time : Board → List Record → Images → ℕ → Time
+eeprom_time b rs x n = (after (on_machine b) rs (machine_at_start b x)).times.eeprom n
 
 -- every page has this time, whatever its number; page k has it, and no other was written
 abbrev pub AllTimed : (ℕ → Time) → Time → Type 0
@@ -169,95 +169,95 @@ abbrev pub OneTimed : (ℕ → Time) → ℕ → Time → Type 0
 OneTimed times k time = (times k ≡ time) × ((n : ℕ) → n ≢ k → times n ≡ never)
 
 -- WREN and a frame of these bytes at t, its `des` at u
-abbrev pub sentAt : ℕ → ℕ → List ℕ → List Record
-sentAt t u bs = wren t ++ (opened t bs ++ (onF u flash.Deselect ∷ []))
+abbrev pub sent_at : ℕ → ℕ → List ℕ → List Record
+sent_at t u bs = wren t ++ (opened t bs ++ (on_f u flash.Deselect ∷ []))
 
 -- a cycle that such a frame starts, its `des` at 20: ended at 30, and cut at 40
 abbrev pub ended : List ℕ → List Record
-ended bs = sentAt 10 20 bs ++ (onF 30 flash.End ∷ [])
+ended bs = sent_at 10 20 bs ++ (on_f 30 flash.End ∷ [])
 
 abbrev pub cut : List ℕ → List Record
-cut bs = sentAt 10 20 bs ++ (onL 40 SupplyOff ∷ [])
+cut bs = sent_at 10 20 bs ++ (on_l 40 SupplyOff ∷ [])
 
 -- 'A program touches its page even if no bit changes': whatever d and the images are, the page of 00100 has the stamp of `end`, and no other page was written
 abbrev pub ProgramTimed : Images → Type 0
 ProgramTimed x =
-    (d : ℕ) → OneTimed (flashTime plain (ended (program 0x00100 d)) x) 1 (written 30) × AllTimed (eepromTime plain (ended (program 0x00100 d)) x) never
+    (d : ℕ) → OneTimed (flash_time plain (ended (program 0x00100 d)) x) 1 (written 30) × AllTimed (eeprom_time plain (ended (program 0x00100 d)) x) never
 
 -- the page is one of the watched sector: 17f00 is on the last of sector 3, and 00100 on none of it
 abbrev pub ProgramWatched : Images → Type 0
 ProgramWatched x =
-    OneTimed (flashTime (watching 0x00 3) (ended (program 0x17f00 0xa5)) x) 127 (written 30)
-    × AllTimed (flashTime (watching 0x00 3) (ended (program 0x00100 0xa5)) x) never
+    OneTimed (flash_time (watching 0x00 3) (ended (program 0x17f00 0xa5)) x) 127 (written 30)
+    × AllTimed (flash_time (watching 0x00 3) (ended (program 0x00100 0xa5)) x) never
 
 -- one that is cut has the stamp of `off`; one that has only started wrote nothing yet
 abbrev pub ProgramCutTimed : Images → Type 0
 ProgramCutTimed x =
-    OneTimed (flashTime plain (cut (program 0x00100 0xa5)) x) 1 (written 40)
-    × AllTimed (flashTime plain (sentAt 10 20 (program 0x00100 0xa5)) x) never
+    OneTimed (flash_time plain (cut (program 0x00100 0xa5)) x) 1 (written 40)
+    × AllTimed (flash_time plain (sent_at 10 20 (program 0x00100 0xa5)) x) never
 
 -- a second PROGRAM, ended at 50: of the same page, and of the next
 abbrev pub again : ℕ → List Record
-again address = ended (program 0x00100 0xa5) ++ (sentAt 35 40 (program address 0xa5) ++ (onF 50 flash.End ∷ []))
+again address = ended (program 0x00100 0xa5) ++ (sent_at 35 40 (program address 0xa5) ++ (on_f 50 flash.End ∷ []))
 
 abbrev pub LastTimed : Images → Type 0
 LastTimed x =
-    OneTimed (flashTime plain (again 0x001ff) x) 1 (written 50)
-    × (flashTime plain (again 0x00200) x 1 ≡ written 30)
-    × (flashTime plain (again 0x00200) x 2 ≡ written 50)
+    OneTimed (flash_time plain (again 0x001ff) x) 1 (written 50)
+    × (flash_time plain (again 0x00200) x 1 ≡ written 30)
+    × (flash_time plain (again 0x00200) x 2 ≡ written 50)
 
 -- 'an erase every page it reaches': all of the watched sector, or none. Chip erase by the locks: 04 locks sector 4 alone, 08 sectors 3 and 4
 abbrev pub ChipEraseTimed : Images → Type 0
 ChipEraseTimed x =
-    AllTimed (flashTime (watching 0x04 3) (ended (0x62 ∷ [])) x) (written 30)
-    × AllTimed (flashTime (watching 0x04 4) (ended (0x62 ∷ [])) x) never
-    × AllTimed (flashTime (watching 0x08 2) (ended (0x62 ∷ [])) x) (written 30)
-    × AllTimed (flashTime (watching 0x08 3) (ended (0x62 ∷ [])) x) never
-    × AllTimed (flashTime (watching 0x04 3) (cut (0x62 ∷ [])) x) (written 40)
-    × AllTimed (flashTime (watching 0x04 4) (cut (0x62 ∷ [])) x) never
+    AllTimed (flash_time (watching 0x04 3) (ended (0x62 ∷ [])) x) (written 30)
+    × AllTimed (flash_time (watching 0x04 4) (ended (0x62 ∷ [])) x) never
+    × AllTimed (flash_time (watching 0x08 2) (ended (0x62 ∷ [])) x) (written 30)
+    × AllTimed (flash_time (watching 0x08 3) (ended (0x62 ∷ [])) x) never
+    × AllTimed (flash_time (watching 0x04 3) (cut (0x62 ∷ [])) x) (written 40)
+    × AllTimed (flash_time (watching 0x04 4) (cut (0x62 ∷ [])) x) never
 
 -- a sector erase of the watched sector, and of another
 abbrev pub SectorEraseTimed : Images → Type 0
 SectorEraseTimed x =
-    AllTimed (flashTime plain (ended (erase 0x00000)) x) (written 30)
-    × AllTimed (flashTime plain (cut (erase 0x00000)) x) (written 40)
-    × AllTimed (flashTime plain (ended (erase 0x08000)) x) never
-    × AllTimed (flashTime plain (cut (erase 0x08000)) x) never
+    AllTimed (flash_time plain (ended (erase 0x00000)) x) (written 30)
+    × AllTimed (flash_time plain (cut (erase 0x00000)) x) (written 40)
+    × AllTimed (flash_time plain (ended (erase 0x08000)) x) never
+    × AllTimed (flash_time plain (cut (erase 0x08000)) x) never
 
 -- WRSR writes no page, nor do `end` and `off` where no cycle runs
 abbrev pub NoPageTimed : Images → Type 0
 NoPageTimed x =
-    AllTimed (flashTime plain (ended (0x01 ∷ 0x0c ∷ [])) x) never
-    × AllTimed (flashTime plain (cut (0x01 ∷ 0x0c ∷ [])) x) never
-    × AllTimed (flashTime plain (onF 30 flash.End ∷ onL 40 SupplyOff ∷ []) x) never
-    × AllTimed (eepromTime plain (on_e 30 eeprom.End ∷ onL 40 SupplyOff ∷ []) x) never
+    AllTimed (flash_time plain (ended (0x01 ∷ 0x0c ∷ [])) x) never
+    × AllTimed (flash_time plain (cut (0x01 ∷ 0x0c ∷ [])) x) never
+    × AllTimed (flash_time plain (on_f 30 flash.End ∷ on_l 40 SupplyOff ∷ []) x) never
+    × AllTimed (eeprom_time plain (on_e 30 eeprom.End ∷ on_l 40 SupplyOff ∷ []) x) never
 
 -- an EEPROM write of one byte to 007f, on page 1, its `sto` at 20: ended at 30, and cut at 40
 abbrev pub StoreTimed : Images → Type 0
 StoreTimed x =
-    OneTimed (eepromTime plain (pageStarted 20 ++ (on_e 30 eeprom.End ∷ [])) x) 1 (written 30)
-    × OneTimed (eepromTime plain (pageStarted 20 ++ (onL 40 SupplyOff ∷ [])) x) 1 (written 40)
-    × AllTimed (eepromTime plain (pageStarted 20) x) never
-    × AllTimed (flashTime plain (pageStarted 20 ++ (on_e 30 eeprom.End ∷ onL 40 SupplyOff ∷ [])) x) never
+    OneTimed (eeprom_time plain (page_started 20 ++ (on_e 30 eeprom.End ∷ [])) x) 1 (written 30)
+    × OneTimed (eeprom_time plain (page_started 20 ++ (on_l 40 SupplyOff ∷ [])) x) 1 (written 40)
+    × AllTimed (eeprom_time plain (page_started 20) x) never
+    × AllTimed (flash_time plain (page_started 20 ++ (on_e 30 eeprom.End ∷ on_l 40 SupplyOff ∷ [])) x) never
 
 -- one `off` cuts the cycles of both chips
-abbrev pub bothCut : List Record
-bothCut = pageStarted 20 ++ (sentAt 25 30 (program 0x00100 0xa5) ++ (onL 40 SupplyOff ∷ []))
+abbrev pub both_cut : List Record
+both_cut = page_started 20 ++ (sent_at 25 30 (program 0x00100 0xa5) ++ (on_l 40 SupplyOff ∷ []))
 
 abbrev pub BothTimed : Images → Type 0
-BothTimed x = OneTimed (flashTime plain bothCut x) 1 (written 40) × OneTimed (eepromTime plain bothCut x) 1 (written 40)
+BothTimed x = OneTimed (flash_time plain both_cut x) 1 (written 40) × OneTimed (eeprom_time plain both_cut x) 1 (written 40)
 
 -- 'the flash window's 128 pages and the EEPROM's 512', '640 entries, flash first', of five bytes each
 abbrev pub TableLaid : Images → Type 0
 TableLaid x =
-    (pagesOf Flash ≡ 128) × (pagesOf Eeprom ≡ 512) × (firstEntry Flash ≡ 0) × (firstEntry Eeprom ≡ 128) × (entries ≡ 640) × (timesLength ≡ 3200)
-    × (entryBytes never ≡ 0 ∷ 0 ∷ 0 ∷ 0 ∷ 0 ∷ [])
-    × (entryBytes (written 0x04030201) ≡ 1 ∷ 0x01 ∷ 0x02 ∷ 0x03 ∷ 0x04 ∷ [])
+    (pages_of Flash ≡ 128) × (pages_of Eeprom ≡ 512) × (first_entry Flash ≡ 0) × (first_entry Eeprom ≡ 128) × (entries ≡ 640) × (times_length ≡ 3200)
+    × (entry_bytes never ≡ 0 ∷ 0 ∷ 0 ∷ 0 ∷ 0 ∷ [])
+    × (entry_bytes (written 0x04030201) ≡ 1 ∷ 0x01 ∷ 0x02 ∷ 0x03 ∷ 0x04 ∷ [])
 
 -- ---- 'Replies and stopping': 'Kinds 2 (unless the mask is ff), 3 and 4 are compared'; 'Bytes and doubt': 'A read is compared on its sure bits only'
 -- READ of 00000, with the byte that was recorded
 abbrev pub reading : ℕ → List Record
-reading so = opened 0 (0x03 ∷ three 0x00000) ++ (onF 0 (flash.Byte 0x00 so) ∷ [])
+reading so = opened 0 (0x03 ∷ three 0x00000) ++ (on_f 0 (flash.Byte 0x00 so) ∷ [])
 
 -- the reply bytes of its six records, kind, value, mask and match of each: five are silent, the sixth is as told
 abbrev pub quiet : List ℕ
@@ -268,7 +268,7 @@ sixth v m n = quiet ++ quiet ++ quiet ++ quiet ++ quiet ++ (2 ∷ v ∷ m ∷ n 
 
 -- where v/m is kept at 00000 and so was recorded, the match is n
 abbrev pub Matched : ℕ → ℕ → ℕ → ℕ → Images → Type 0
-Matched v m so n x = cell_at x.flash 0x00000 ≡ cell v m → replyLines (reading so) (saidOn plain (reading so) x) ≡ sixth v m n
+Matched v m so n x = cell_at x.flash 0x00000 ≡ cell v m → reply_lines (reading so) (said_on plain (reading so) x) ≡ sixth v m n
 
 -- mask ff: nothing to compare, whatever was recorded
 abbrev pub NoSureBit : Images → Type 0
@@ -284,13 +284,13 @@ OneSureBit x =
 
 -- ---- 'The trace': 'Text of at most 65,536 bytes'; refusal 2: 'text over 65,536'
 -- buffers with these images
-abbrev pub lentWith : Images → List ℕ → List ℕ → List ℕ → Buffers
-lentWith x times replies result = record { images = x; times = times; replies = replies; result = result }
+abbrev pub lent_with : Images → List ℕ → List ℕ → List ℕ → Buffers
+lent_with x times replies result = record { images = x; times = times; replies = replies; result = result }
 
 -- any outcome that the promise of the call admits, where the buffers fit
 abbrev pub Limit : Images → Type 0
 Limit x =
-    (text times replies result : List ℕ) (e : Ended) → fit (lentWith x times replies result) ≡ true → Replays text (lentWith x times replies result) e
+    (text times replies result : List ℕ) (e : Ended) → fit (lent_with x times replies result) ≡ true → Replays text (lent_with x times replies result) e
     → (length text ≡ 65536 → e.answer ≢ 2) × (length text ≡ 65537 → e.answer ≡ 2)
 
 -- ---- the list

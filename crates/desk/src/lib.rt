@@ -1,24 +1,24 @@
 // The replay on the caller's own buffers: what the desk's viewer, a C program, calls. And the plan, the merge and the second engine, for the repair shop's programs: all that is exported stands here.
 // A stamp is judged before a byte of it is played, so nothing is ever undone and no image is copied.
 ghost use Rattle.std.specs.Prelude.{◌≡◌, ◌+◌, ◌≤◌, min, length, take, replicate};
-ghost use Rattle.meaning.specs.Channels.{mostInAll};
-ghost use Rattle.text.specs.Texts.{textLimit};
-ghost use Rattle.image.specs.Images.{imagesOf, perChip};
-ghost use Rattle.image.specs.View.{viewPlace, viewLength};
-ghost use Rattle.record.specs.Lengths.{repliesLength, resultLength};
-ghost use Rattle.times.specs.Times.{timesLength};
-ghost use Rattle.buffers.specs.Buffers.{buffersOf, resultAfter};
-ghost use Rattle.record.specs.Answers.{answerNumber};
-ghost use Rattle.call.specs.Play.{twos, replyLine};
-ghost use Rattle.call.specs.Steps.{deskOf, runDesk};
-ghost use Rattle.buffers.specs.Put.{repliesWith};
+ghost use Rattle.meaning.specs.Channels.{most_in_all};
+ghost use Rattle.text.specs.Texts.{text_limit};
+ghost use Rattle.image.specs.Images.{images_of, per_chip};
+ghost use Rattle.image.specs.View.{view_place, view_length};
+ghost use Rattle.record.specs.Lengths.{replies_length, result_length};
+ghost use Rattle.times.specs.Times.{times_length};
+ghost use Rattle.buffers.specs.Buffers.{buffers_of, result_after};
+ghost use Rattle.record.specs.Answers.{answer_number};
+ghost use Rattle.call.specs.Play.{twos, reply_line};
+ghost use Rattle.call.specs.Steps.{desk_of, run_desk};
+ghost use Rattle.buffers.specs.Put.{replies_with};
 ghost use Rattle.machine.specs.Replies.{compared};
-ghost use Rattle.call.specs.Replay.{ended_as, Replays, chipOf};
-ghost use Rattle.call.specs.Run.{endedWith, Runs, goesOn};
-ghost use Rattle.orders.specs.Verdicts.{verdictAnswer};
-ghost use Rattle.fewest.specs.Call.{leftAs, Plans};
-ghost use Rattle.merged.specs.Merging.{outputsOf, wroteAs, Merges};
-ghost use Rattle.engine.specs.Playing.{lent_of, playedAs, Plays};
+ghost use Rattle.call.specs.Replay.{ended_as, Replays, chip_of};
+ghost use Rattle.call.specs.Run.{ended_with, Runs, goes_on};
+ghost use Rattle.orders.specs.Verdicts.{verdict_answer};
+ghost use Rattle.fewest.specs.Call.{left_as, Plans};
+ghost use Rattle.merged.specs.Merging.{outputs_of, wrote_as, Merges};
+ghost use Rattle.engine.specs.Playing.{lent_of, played_as, Plays};
 
 use controls::Controls;
 use orders::Verdict;
@@ -38,7 +38,7 @@ fn two(m: Match) -> u32
 
 // A reply is compared and written; 1 where it disagrees.
 fn put_compared(rec: Record, number: usize, reply: Reply, replies: &mut [u8]) -> u32
-    ensures replies_after { (replies.new ≡ repliesWith number (replyLine rec reply) replies.old) × (result ≡ twos (compared rec.event reply)) }
+    ensures replies_after { (replies.new ≡ replies_with number (reply_line rec reply) replies.old) × (result ≡ twos (compared rec.event reply)) }
     ensures upper_bound { result ≤ 1 }
 {
     let event = rec.event;
@@ -69,10 +69,10 @@ fn play_all(
     times: &mut [u8],
     replies: &mut [u8],
 ) -> Done
-    requires { (many ≤ mostInAll) × (count ≤ 500000) × (number ≤ 500000) }
-    ensures count_after { deskOf result.controls (imagesOf flash.new flash_mask.new eeprom.new eeprom_mask.new) times.new replies.new result.number result.count
-        ≡ runDesk board (take many records) (deskOf controls (imagesOf flash.old flash_mask.old eeprom.old eeprom_mask.old) times.old replies.old number count) }
-    ensures number_bound { (result.number ≤ number + mostInAll) × (result.count ≤ count + mostInAll) }
+    requires { (many ≤ most_in_all) × (count ≤ 500000) × (number ≤ 500000) }
+    ensures count_after { desk_of result.controls (images_of flash.new flash_mask.new eeprom.new eeprom_mask.new) times.new replies.new result.number result.count
+        ≡ run_desk board (take many records) (desk_of controls (images_of flash.old flash_mask.old eeprom.old eeprom_mask.old) times.old replies.old number count) }
+    ensures number_bound { (result.number ≤ number + most_in_all) × (result.count ≤ count + most_in_all) }
 {
     let mut cur = controls;
     let mut c = count;
@@ -103,7 +103,7 @@ struct End {
 }
 
 fn stop_of(v: Verdict) -> Answer
-    ensures { result ≡ verdictAnswer v }
+    ensures { result ≡ verdict_answer v }
 {
     match v {
         Verdict::Crowded => Answer::Crowded,
@@ -114,7 +114,7 @@ fn stop_of(v: Verdict) -> Answer
 }
 
 fn passes(v: Verdict) -> bool
-    ensures { result ≡ goesOn v }
+    ensures { result ≡ goes_on v }
 {
     match v {
         Verdict::Crowded => false,
@@ -126,7 +126,7 @@ fn passes(v: Verdict) -> bool
 
 // No more than may share a stamp.
 fn at_most(n: usize) -> usize
-    ensures { result ≡ min n mostInAll }
+    ensures { result ≡ min n most_in_all }
 {
     if n < orders::MOST_IN_ALL {
         n
@@ -147,9 +147,9 @@ fn run(
     times: &mut [u8],
     replies: &mut [u8],
 ) -> End
-    requires { length text.now ≤ textLimit }
-    ensures { Runs text.now first board (imagesOf flash.old flash_mask.old eeprom.old eeprom_mask.old) times.old replies.old
-        (endedWith result.answer result.stamp result.count (imagesOf flash.new flash_mask.new eeprom.new eeprom_mask.new) times.new replies.new) }
+    requires { length text.now ≤ text_limit }
+    ensures { Runs text.now first board (images_of flash.old flash_mask.old eeprom.old eeprom_mask.old) times.old replies.old
+        (ended_with result.answer result.stamp result.count (images_of flash.new flash_mask.new eeprom.new eeprom_mask.new) times.new replies.new) }
 {
     let mut cur = Controls::start(board);
     let mut place = first;
@@ -207,7 +207,7 @@ fn run(
 
 // A refusal writes only the result: the answer, the line, no count, the field.
 fn refuse(res: &mut [u8], answer: Answer, line: usize, field: u32) -> u32
-    ensures { (result ≡ answerNumber answer) × (res.new ≡ resultAfter (answerNumber answer) line 0 field res.old) }
+    ensures { (result ≡ answer_number answer) × (res.new ≡ result_after (answer_number answer) line 0 field res.old) }
 {
     let number = record::answer_number(answer);
     buffers::put_result(res, number, line, 0, field);
@@ -227,9 +227,9 @@ fn replay(
     replies: &mut [u8],
     res: &mut [u8],
 ) -> u32
-    requires { (length text.now ≤ textLimit) × (length times.old ≡ timesLength) × (length replies.old ≡ repliesLength) × (length res.old ≡ resultLength) }
-    ensures { Runs text.now first board (imagesOf flash.old flash_mask.old eeprom.old eeprom_mask.old) (replicate timesLength 0) (replicate repliesLength 0)
-        (ended_as result (buffersOf flash.new flash_mask.new eeprom.new eeprom_mask.new times.new replies.new res.new)) }
+    requires { (length text.now ≤ text_limit) × (length times.old ≡ times_length) × (length replies.old ≡ replies_length) × (length res.old ≡ result_length) }
+    ensures { Runs text.now first board (images_of flash.old flash_mask.old eeprom.old eeprom_mask.old) (replicate times_length 0) (replicate replies_length 0)
+        (ended_as result (buffers_of flash.new flash_mask.new eeprom.new eeprom_mask.new times.new replies.new res.new)) }
 {
     buffers::clear_all(times);
     buffers::clear_all(replies);
@@ -264,8 +264,8 @@ pub extern "C" fn hazelcrook_replay(
     res: &mut [u8],
 ) -> u32
     ensures { Replays text.now
-        (buffersOf flash.old flash_mask.old eeprom.old eeprom_mask.old times.old replies.old res.old)
-        (ended_as result (buffersOf flash.new flash_mask.new eeprom.new eeprom_mask.new times.new replies.new res.new)) }
+        (buffers_of flash.old flash_mask.old eeprom.old eeprom_mask.old times.old replies.old res.old)
+        (ended_as result (buffers_of flash.new flash_mask.new eeprom.new eeprom_mask.new times.new replies.new res.new)) }
 {
     if !buffers::fits_all(flash, flash_mask, eeprom, eeprom_mask, times, replies, res) {
         return refuse(res, Answer::BadBuffers, 0, 0);
@@ -292,7 +292,7 @@ pub extern "C" fn hazelcrook_replay(
 }
 
 fn chip_of(chip: u32) -> Chip
-    ensures { result ≡ chipOf chip }
+    ensures { result ≡ chip_of chip }
 {
     if chip == 0 {
         return Chip::Flash;
@@ -308,7 +308,7 @@ pub extern "C" fn hazelcrook_page_place(
     chip: u32,
     number: usize,
 ) -> usize
-    ensures { result ≡ viewPlace (perChip flash eeprom) (chipOf chip) number }
+    ensures { result ≡ view_place (per_chip flash eeprom) (chip_of chip) number }
 {
     image::view::view_place(flash, eeprom, chip_of(chip), number)
 }
@@ -321,7 +321,7 @@ pub extern "C" fn hazelcrook_page_length(
     chip: u32,
     number: usize,
 ) -> usize
-    ensures { result ≡ viewLength (perChip flash eeprom) (chipOf chip) number }
+    ensures { result ≡ view_length (per_chip flash eeprom) (chip_of chip) number }
 {
     image::view::view_length(flash, eeprom, chip_of(chip), number)
 }
@@ -335,7 +335,7 @@ pub extern "C" fn hazelcrook_plan(
     list: &mut [u8],
     res: &mut [u8],
 ) -> u32
-    ensures { Plans status present.now wanted.now list.old res.old (leftAs result list.new res.new) }
+    ensures { Plans status present.now wanted.now list.old res.old (left_as result list.new res.new) }
 {
     planner::plan(present, wanted, status, list, res)
 }
@@ -348,7 +348,7 @@ pub extern "C" fn hazelcrook_merge(
     output: &mut [u8],
     res: &mut [u8],
 ) -> u32
-    ensures { Merges levels.now trace.now (outputsOf output.old res.old) (wroteAs result (outputsOf output.new res.new)) }
+    ensures { Merges levels.now trace.now (outputs_of output.old res.old) (wrote_as result (outputs_of output.new res.new)) }
 {
     merged::merge(levels, trace, output, res)
 }
@@ -366,7 +366,7 @@ pub extern "C" fn hazelcrook_play_levels(
 ) -> u32
     ensures { Plays levels.now trace.now
         (lent_of flash.old flash_mask.old eeprom.old eeprom_mask.old res.old)
-        (playedAs result (lent_of flash.new flash_mask.new eeprom.new eeprom_mask.new res.new)) }
+        (played_as result (lent_of flash.new flash_mask.new eeprom.new eeprom_mask.new res.new)) }
 {
     engine::play_levels(levels, trace, flash, flash_mask, eeprom, eeprom_mask, res)
 }

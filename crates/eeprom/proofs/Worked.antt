@@ -12,7 +12,7 @@ use Rattle.record.specs.declared.EepromEvent.TheVariants as event
 use Rattle.record.specs.declared.LineEvent.{LineEvent}
 use Rattle.record.specs.declared.LineEvent.TheVariants.{SupplyOff, LockOn}
 use Rattle.eeprom.specs.Chip.{blank, start_of}
-use Rattle.eeprom.specs.Side.{Side, sideStart, sideBus, sideSays, sideLine}
+use Rattle.eeprom.specs.Side.{Side, side_start, side_bus, side_says, side_line}
 use Rattle.eeprom.specs.declared.EepromFrame.{EepromFrame}
 use Rattle.eeprom.specs.declared.EepromFrame.TheVariants.{Idle, Void, Addressed, Taking}
 use Rattle.eeprom.specs.declared.EepromCycle.{EepromCycle}
@@ -28,14 +28,14 @@ pub data Played : Type 0 where
 
 abbrev pub after : Side → List Played → Side
 after s [] = s
-after s (bus e ∷ ps) = after (sideBus 0 s e) ps
-after s (line e ∷ ps) = after (sideLine s e) ps
+after s (bus e ∷ ps) = after (side_bus 0 s e) ps
+after s (line e ∷ ps) = after (side_line s e) ps
 
 -- the replies of channel E
 abbrev pub says : Side → List Played → List Skeleton
 says s [] = []
-says s (bus e ∷ ps) = sideSays 0 s e ∷ says (sideBus 0 s e) ps
-says s (line e ∷ ps) = says (sideLine s e) ps
+says s (bus e ∷ ps) = side_says 0 s e ∷ says (side_bus 0 s e) ps
+says s (line e ∷ ps) = says (side_line s e) ps
 
 -- the records from the start on, their replies, and the chip after them
 pub record Case : Type 0 where
@@ -47,8 +47,8 @@ abbrev pub given : List Played → List Skeleton → Eeprom → Case
 given ps rs chip = record { records = ps; replies = rs; chip = chip }
 
 -- the case as the rules have it
-abbrev pub byRules : Case → Case
-byRules c = given c.records (says sideStart c.records) (after sideStart c.records).chip
+abbrev pub by_rules : Case → Case
+by_rules c = given c.records (says side_start c.records) (after side_start c.records).chip
 
 -- ---- the words of the cases
 abbrev pub bytes : List ℕ → List Played
@@ -94,5 +94,5 @@ cases =
     ∷ []
 
 -- each case is as the rules have it
-pub worked : map byRules cases ≡ cases
+pub worked : map by_rules cases ≡ cases
 worked = refl

@@ -2,7 +2,7 @@
 use Rattle.std.specs.Prelude.{ℕ, Bool, true, false, List, replicate}
 use Rattle.record.specs.declared.Skeleton.{Skeleton}
 use Rattle.record.specs.declared.Skeleton.TheVariants.{Silent}
-use Rattle.page.specs.Geometry.{eepromPage}
+use Rattle.page.specs.Geometry.{eeprom_page}
 use Rattle.eeprom.specs.declared.EepromFrame.{EepromFrame}
 use Rattle.eeprom.specs.declared.EepromFrame.TheVariants.{Idle}
 use Rattle.eeprom.specs.declared.EepromCycle.{EepromCycle}
@@ -14,32 +14,32 @@ use Rattle.eeprom.specs.declared.EepromStep.{EepromStep}
 
 -- a page to which nothing was sent
 abbrev pub blank : List ℕ
-blank = replicate eepromPage 0
+blank = replicate eeprom_page 0
 
 -- at the start the chip is idle and its counter lost ('Bytes and doubt')
 abbrev pub start_of : Eeprom
 start_of = record { frame = Idle; cycle = None; counter = Lost; page = blank }
 
 -- whether a write cycle runs
-abbrev pub runningOf : EepromCycle → Bool
-runningOf None = false
-runningOf (Write s) = true
+abbrev pub running_of : EepromCycle → Bool
+running_of None = false
+running_of (Write s) = true
 
 -- what is left of the page where the frame has no data: a cycle's
-abbrev pub pageIn : EepromCycle → List ℕ → List ℕ
-pageIn None page = blank
-pageIn (Write s) page = page
+abbrev pub page_in : EepromCycle → List ℕ → List ℕ
+page_in None page = blank
+page_in (Write s) page = page
 
 -- the same chip in a frame that has no data
-abbrev pub inFrame : Eeprom → EepromFrame → Eeprom
-inFrame x f = record { frame = f; cycle = x.cycle; counter = x.counter; page = pageIn x.cycle x.page }
+abbrev pub in_frame : Eeprom → EepromFrame → Eeprom
+in_frame x f = record { frame = f; cycle = x.cycle; counter = x.counter; page = page_in x.cycle x.page }
 
 -- the chip after a record, and its reply to it
 abbrev pub answered : Eeprom → Skeleton → EepromStep
 answered x r = record { chip = x; reply = r }
 
-abbrev pub silentIn : Eeprom → EepromFrame → EepromStep
-silentIn x f = answered (inFrame x f) Silent
+abbrev pub silent_in : Eeprom → EepromFrame → EepromStep
+silent_in x f = answered (in_frame x f) Silent
 
 -- the counter's place; a frame that takes data has one
 abbrev pub place_of : EepromCounter → ℕ

@@ -1,9 +1,9 @@
 -- What every state keeps that is reached from the start.
 use Rattle.std.specs.Prelude.{ℕ, ◌+◌, ◌/◌, ◌%◌, ◌<◌, ◌≤◌, true, false, ◌≡◌, List, length, get_or}
-use Rattle.page.specs.Geometry.{eepromPage, eepromSize}
-use Rattle.page.specs.Rolling.{sentPlace}
+use Rattle.page.specs.Geometry.{eeprom_page, eeprom_size}
+use Rattle.page.specs.Rolling.{sent_place}
 use Rattle.eeprom.specs.Chip.{place_of}
-use Rattle.eeprom.specs.Write.{sentBy}
+use Rattle.eeprom.specs.Write.{sent_by}
 use Rattle.eeprom.specs.Side.{Side}
 use Rattle.eeprom.specs.declared.Sent.{Sent}
 use Rattle.eeprom.specs.declared.EepromFrame.{EepromFrame}
@@ -17,7 +17,7 @@ use Rattle.eeprom.specs.declared.Eeprom.{Eeprom}
 -- the counter is lost or a place of the chip
 abbrev pub CounterGood : EepromCounter → Type 0
 CounterGood Lost = Unit {0}
-CounterGood (At p) = p < eepromSize
+CounterGood (At p) = p < eeprom_size
 
 abbrev pub Known : EepromCounter → Type 0
 Known Lost = ⊥
@@ -30,7 +30,7 @@ FrameGood Void n = Unit {0}
 FrameGood (Opened barred) n = Unit {0}
 FrameGood Addressed n = Unit {0}
 FrameGood (Half high) n = high < 128
-FrameGood (Taking k) n = (k ≤ eepromPage) × Known n
+FrameGood (Taking k) n = (k ≤ eeprom_page) × Known n
 FrameGood Reading n = Unit {0}
 
 -- in a cycle: no write frame, no read frame
@@ -50,13 +50,13 @@ FrameIn (Write s) f n = Waits f
 
 -- the places of a cycle, one or more of one page, and the place p of the counter: one past the last, in the page's own rolling
 pub record SentGood (s : Sent) (p : ℕ) : Type 0 where
-  pub in-chip : s.page < eepromSize / eepromPage
-  pub in-page : s.first < eepromPage
+  pub in_chip_lem : s.page < eeprom_size / eeprom_page
+  pub in_page_lem : s.first < eeprom_page
   pub some : 1 ≤ s.count
-  pub no_more : s.count ≤ eepromPage
-  pub all : eepromPage ≤ s.count → s.first ≡ 0
-  pub here : p / eepromPage ≡ s.page
-  pub past : s.count < eepromPage → p % eepromPage ≡ (s.first + s.count) % eepromPage
+  pub no_more : s.count ≤ eeprom_page
+  pub all : eeprom_page ≤ s.count → s.first ≡ 0
+  pub here : p / eeprom_page ≡ s.page
+  pub past : s.count < eeprom_page → p % eeprom_page ≡ (s.first + s.count) % eeprom_page
 
 abbrev pub CycleIn : EepromCycle → EepromCounter → Type 0
 CycleIn None n = Unit {0}
@@ -73,17 +73,17 @@ count_of (Taking k) = k
 count_of Reading = 0
 
 -- the places for which the page holds bytes
-abbrev pub sentIn : EepromCycle → EepromFrame → EepromCounter → Sent
-sentIn None f n = sentBy (place_of n) (count_of f)
-sentIn (Write s) f n = s
+abbrev pub sent_in : EepromCycle → EepromFrame → EepromCounter → Sent
+sent_in None f n = sent_by (place_of n) (count_of f)
+sent_in (Write s) f n = s
 
 -- a chip, by its parts: the page holds 0 where nothing was sent
 pub record Fields (f : EepromFrame) (c : EepromCycle) (n : EepromCounter) (p : List ℕ) : Type 0 where
   pub in_frame : FrameIn c f n
-  pub in-cycle : CycleIn c n
-  pub in-counter : CounterGood n
-  pub long : length p ≡ eepromPage
-  pub empty : (q : ℕ) → q < eepromPage → sentPlace eepromPage (sentIn c f n).first (sentIn c f n).count q ≡ false → get_or p q 0 ≡ 0
+  pub in_cycle_lem : CycleIn c n
+  pub in_counter : CounterGood n
+  pub long : length p ≡ eeprom_page
+  pub empty : (q : ℕ) → q < eeprom_page → sent_place eeprom_page (sent_in c f n).first (sent_in c f n).count q ≡ false → get_or p q 0 ≡ 0
 
 abbrev pub ChipGood : Eeprom → Type 0
 ChipGood x = Fields x.frame x.cycle x.counter x.page
@@ -105,5 +105,5 @@ pub record Dark (x : Eeprom) : Type 0 where
   pub lost : x.counter ≡ Lost
 
 pub record Good (s : Side) : Type 0 where
-  pub chip-good : ChipGood s.chip
+  pub chip_good : ChipGood s.chip
   pub dark : s.lines.supply ≡ false → Dark s.chip

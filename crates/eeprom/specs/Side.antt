@@ -1,6 +1,6 @@
 -- The EEPROM with the two lines that reach it: what one bus record and one line record do to both.
 use Rattle.std.specs.Prelude.{ℕ}
-use Rattle.record.specs.LineRules.{linesAtStart, linesAfter}
+use Rattle.record.specs.LineRules.{lines_at_start, lines_after}
 use Rattle.record.specs.declared.Skeleton.{Skeleton}
 use Rattle.record.specs.declared.EepromEvent.{EepromEvent}
 use Rattle.record.specs.declared.LineEvent.{LineEvent}
@@ -13,16 +13,16 @@ pub record Side : Type 0 where
   pub chip : Eeprom
   pub lines : Lines
 
-abbrev pub sideStart : Side
-sideStart = record { chip = start_of; lines = linesAtStart }
+abbrev pub side_start : Side
+side_start = record { chip = start_of; lines = lines_at_start }
 
 -- a bus record leaves the lines
-abbrev pub sideBus : ℕ → Side → EepromEvent → Side
-sideBus wired s e = record { chip = (step_of s.chip e s.lines wired).chip; lines = s.lines }
+abbrev pub side_bus : ℕ → Side → EepromEvent → Side
+side_bus wired s e = record { chip = (step_of s.chip e s.lines wired).chip; lines = s.lines }
 
-abbrev pub sideSays : ℕ → Side → EepromEvent → Skeleton
-sideSays wired s e = (step_of s.chip e s.lines wired).reply
+abbrev pub side_says : ℕ → Side → EepromEvent → Skeleton
+side_says wired s e = (step_of s.chip e s.lines wired).reply
 
 -- a line record moves the lines; the chip goes by the lines before it
-abbrev pub sideLine : Side → LineEvent → Side
-sideLine s e = record { chip = line_of s.chip e s.lines; lines = linesAfter s.lines e }
+abbrev pub side_line : Side → LineEvent → Side
+side_line s e = record { chip = line_of s.chip e s.lines; lines = lines_after s.lines e }

@@ -2,16 +2,16 @@
 -- By it two orders of one stamp's records are compared without an image.
 use Rattle.std.specs.Prelude.{ℕ, ◌%◌, false, ◌≡◌, List}
 use Rattle.tied.specs.Control.{Control, Cycle, idle, runs}
-use Rattle.record.specs.Told.{skeletonKind, Telling}
+use Rattle.record.specs.Told.{skeleton_kind, Telling}
 use Rattle.record.specs.declared.Skeleton.{Skeleton}
 use Rattle.record.specs.declared.Skeleton.TheVariants.{Silent, Given, Fetch, Ack, NoAck, Starts, Ends, NoCycle}
 use Rattle.record.specs.declared.EepromEvent.{EepromEvent}
 use Rattle.record.specs.declared.EepromEvent.TheVariants.{Start, Byte, Cut, Stop, End}
 use Rattle.record.specs.declared.LineEvent.{LineEvent}
 use Rattle.eeprom.specs.Chip.{blank, place_of}
-use Rattle.eeprom.specs.Write.{nextInPage, putByte, counted, sentBy}
-use Rattle.eeprom.specs.Frame.{openedBy, address_of, fetchOf, movedOn}
-use Rattle.eeprom.specs.Side.{Side, sideBus, sideSays, sideLine}
+use Rattle.eeprom.specs.Write.{next_in_page, put_byte, counted, sent_by}
+use Rattle.eeprom.specs.Frame.{opened_by, address_of, fetch_of, moved_on}
+use Rattle.eeprom.specs.Side.{Side, side_bus, side_says, side_line}
 use Rattle.eeprom.specs.Good.{count_of, Good}
 use Rattle.eeprom.specs.declared.Sent.{Sent}
 use Rattle.eeprom.specs.declared.EepromFrame.{EepromFrame}
@@ -27,12 +27,12 @@ pub record Writing : Type 0 where
   pub sent : Sent
   pub bytes : List ℕ
 
-abbrev pub runsIn : EepromCycle → List ℕ → Cycle Writing
-runsIn None page = idle
-runsIn (Write s) page = runs (record { sent = s; bytes = page })
+abbrev pub runs_in : EepromCycle → List ℕ → Cycle Writing
+runs_in None page = idle
+runs_in (Write s) page = runs (record { sent = s; bytes = page })
 
-abbrev pub runsOf : Eeprom → Cycle Writing
-runsOf x = runsIn x.cycle x.page
+abbrev pub runs_of : Eeprom → Cycle Writing
+runs_of x = runs_in x.cycle x.page
 
 -- ---- what is told: the frame, the counter, and the data so far
 pub record Told : Type 0 where
@@ -41,59 +41,59 @@ pub record Told : Type 0 where
   pub page : List ℕ
 
 -- an acknowledged byte is the next one of the frame
-abbrev pub toldAck : EepromFrame → Told → ℕ → Told
-toldAck Idle t b = t
-toldAck Void t b = t
-toldAck (Opened barred) t b = record { frame = openedBy b; counter = t.counter; page = blank }
-toldAck Addressed t b = record { frame = Half (b % 128); counter = t.counter; page = blank }
-toldAck (Half high) t b = record { frame = Taking 0; counter = At (address_of high b); page = blank }
-toldAck (Taking n) t b =
+abbrev pub told_ack : EepromFrame → Told → ℕ → Told
+told_ack Idle t b = t
+told_ack Void t b = t
+told_ack (Opened barred) t b = record { frame = opened_by b; counter = t.counter; page = blank }
+told_ack Addressed t b = record { frame = Half (b % 128); counter = t.counter; page = blank }
+told_ack (Half high) t b = record { frame = Taking 0; counter = At (address_of high b); page = blank }
+told_ack (Taking n) t b =
     record {
       frame = Taking (counted n);
-      counter = At (nextInPage (place_of t.counter));
-      page = putByte (place_of t.counter) b t.page;
+      counter = At (next_in_page (place_of t.counter));
+      page = put_byte (place_of t.counter) b t.page;
     }
-toldAck Reading t b = t
+told_ack Reading t b = t
 
 -- a byte that is fetched moves the counter on; silence and a missing acknowledge tell nothing
-abbrev pub toldByte : Told → ℕ → Skeleton → Told
-toldByte t b Silent = t
-toldByte t b (Given v) = t
-toldByte t b (Fetch p) = record { frame = t.frame; counter = movedOn t.counter; page = t.page }
-toldByte t b Ack = toldAck t.frame t b
-toldByte t b NoAck = t
-toldByte t b Starts = t
-toldByte t b Ends = t
-toldByte t b NoCycle = t
+abbrev pub told_byte : Told → ℕ → Skeleton → Told
+told_byte t b Silent = t
+told_byte t b (Given v) = t
+told_byte t b (Fetch p) = record { frame = t.frame; counter = moved_on t.counter; page = t.page }
+told_byte t b Ack = told_ack t.frame t b
+told_byte t b NoAck = t
+told_byte t b Starts = t
+told_byte t b Ends = t
+told_byte t b NoCycle = t
 
 -- that a `sta` came in a cycle is not told: the reply to the address byte tells it
 abbrev pub told : Told → EepromEvent → Skeleton → Told
 told t Start r = record { frame = Opened false; counter = t.counter; page = t.page }
-told t (Byte b bit) r = toldByte t b r
+told t (Byte b bit) r = told_byte t b r
 told t Cut r = record { frame = Void; counter = t.counter; page = t.page }
 told t Stop r = record { frame = Idle; counter = t.counter; page = t.page }
 told t End r = t
 
 -- the cycle that a `sto` starts
-abbrev pub cycleTold : Told → EepromEvent → Writing
-cycleTold t e = record { sent = sentBy (place_of t.counter) (count_of t.frame); bytes = t.page }
+abbrev pub cycle_told : Told → EepromEvent → Writing
+cycle_told t e = record { sent = sent_by (place_of t.counter) (count_of t.frame); bytes = t.page }
 
 -- the place from which a byte is about to be read
-abbrev pub hintIn : EepromFrame → EepromCounter → Skeleton
-hintIn Idle n = Silent
-hintIn Void n = Silent
-hintIn (Opened barred) n = Silent
-hintIn Addressed n = Silent
-hintIn (Half high) n = Silent
-hintIn (Taking k) n = Silent
-hintIn Reading n = fetchOf n
+abbrev pub hint_in : EepromFrame → EepromCounter → Skeleton
+hint_in Idle n = Silent
+hint_in Void n = Silent
+hint_in (Opened barred) n = Silent
+hint_in Addressed n = Silent
+hint_in (Half high) n = Silent
+hint_in (Taking k) n = Silent
+hint_in Reading n = fetch_of n
 
-abbrev pub hintTold : Told → EepromEvent → Skeleton
-hintTold t Start = Silent
-hintTold t (Byte b bit) = hintIn t.frame t.counter
-hintTold t Cut = Silent
-hintTold t Stop = Silent
-hintTold t End = Silent
+abbrev pub hint_told : Told → EepromEvent → Skeleton
+hint_told t Start = Silent
+hint_told t (Byte b bit) = hint_in t.frame t.counter
+hint_told t Cut = Silent
+hint_told t Stop = Silent
+hint_told t End = Silent
 
 -- ---- the chip's frame is idle, void or the told one, with the told data
 abbrev pub FrameTold : EepromFrame → List ℕ → Told → Type 0
@@ -111,21 +111,21 @@ CounterTold Lost m = Unit {0}
 CounterTold (At p) m = m ≡ At p
 
 pub record Tracks (x : Eeprom) (t : Told) : Type 0 where
-  pub frame-told : FrameTold x.frame x.page t
-  pub counter-told : CounterTold x.counter t.counter
+  pub frame_told : FrameTold x.frame x.page t
+  pub counter_told : CounterTold x.counter t.counter
 
 -- ---- the chip as a control
-abbrev pub eepromControl : ℕ → Control Side EepromEvent LineEvent Skeleton Writing Told
-eepromControl wired = record {
-  bus = sideBus wired;
-  skel = sideSays wired;
-  line = sideLine;
-  running = λ s. runsOf s.chip;
-  kind = skeletonKind;
+abbrev pub eeprom_control : ℕ → Control Side EepromEvent LineEvent Skeleton Writing Told
+eeprom_control wired = record {
+  bus = side_bus wired;
+  skel = side_says wired;
+  line = side_line;
+  running = λ s. runs_of s.chip;
+  kind = skeleton_kind;
   next = told;
-  cycleOf = cycleTold;
+  cycle_of = cycle_told;
   Tracks = λ s t. Tracks s.chip t;
   Good = Good;
-  hint = hintTold;
+  hint = hint_told;
   Telling = Telling;
 }

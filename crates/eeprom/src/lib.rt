@@ -2,9 +2,9 @@
 // It asks for no byte of the image: a read only says which place it delivers.
 ghost use Rattle.std.specs.Prelude.{◌≡◌};
 ghost use Rattle.law.specs.Deciding.{Decides};
-ghost use Rattle.eeprom.specs.Chip.{start_of, answered, inFrame, silentIn};
-ghost use Rattle.eeprom.specs.Frame.{addressByte, low_byte, dataByte, readByte, byte_of};
-ghost use Rattle.eeprom.specs.Step.{startedOf, writeEnds, stopOf, end_of, poweredOf, unpoweredOf, step_of, off_of, line_of};
+ghost use Rattle.eeprom.specs.Chip.{start_of, answered, in_frame, silent_in};
+ghost use Rattle.eeprom.specs.Frame.{address_byte, low_byte, data_byte, read_byte, byte_of};
+ghost use Rattle.eeprom.specs.Step.{started_of, write_ends, stop_of, end_of, powered_of, unpowered_of, step_of, off_of, line_of};
 
 use record::{EepromEvent, LineEvent, Lines, Skeleton};
 
@@ -91,7 +91,7 @@ impl Eeprom {
 
     // The same chip in a frame that has no data.
     fn in_frame(self, frame: EepromFrame) -> Eeprom
-        ensures { result ≡ inFrame self frame }
+        ensures { result ≡ in_frame self frame }
     {
         let cycle = self.cycle;
         let counter = self.counter;
@@ -107,14 +107,14 @@ impl Eeprom {
 
     // Silence, in a frame that has no data.
     fn silent_in(self, frame: EepromFrame) -> EepromStep
-        ensures { result ≡ silentIn self frame }
+        ensures { result ≡ silent_in self frame }
     {
         self.in_frame(frame).answer(Skeleton::Silent)
     }
 
     // The byte after `sta`; a `sta` in a cycle barred it.
     fn address_byte(self, barred: bool, b: u8, wired: u8) -> EepromStep
-        ensures { result ≡ addressByte self barred b wired }
+        ensures { result ≡ address_byte self barred b wired }
     {
         if parts::own_address(b, wired) {
             if barred {
@@ -145,7 +145,7 @@ impl Eeprom {
 
     // A data byte of a write.
     fn data_byte(self, count: u32, b: u8) -> EepromStep
-        ensures { result ≡ dataByte self count b }
+        ensures { result ≡ data_byte self count b }
     {
         let cycle = self.cycle;
         let counter = self.counter;
@@ -165,7 +165,7 @@ impl Eeprom {
 
     // A byte of a read. The acknowledge bit is the master's.
     fn read_byte(self, bit: bool) -> EepromStep
-        ensures { result ≡ readByte self bit }
+        ensures { result ≡ read_byte self bit }
     {
         let cycle = self.cycle;
         let counter = self.counter;
@@ -199,7 +199,7 @@ impl Eeprom {
 
     // `sta` with the supply on: unsaved data is dropped.
     fn started(self) -> EepromStep
-        ensures { result ≡ startedOf self }
+        ensures { result ≡ started_of self }
     {
         let cycle = self.cycle;
         let busy = parts::running(cycle);
@@ -208,7 +208,7 @@ impl Eeprom {
 
     // `sto` after both address bytes and so many data bytes: the lock counts at this moment alone.
     fn write_ends(self, count: u32, lock: bool) -> EepromStep
-        ensures { result ≡ writeEnds self count lock }
+        ensures { result ≡ write_ends self count lock }
     {
         if count == 0 {
             return self.silent_in(EepromFrame::Idle);
@@ -230,7 +230,7 @@ impl Eeprom {
 
     // `sto` with the supply on.
     fn stop(self, lock: bool) -> EepromStep
-        ensures { result ≡ stopOf self lock }
+        ensures { result ≡ stop_of self lock }
     {
         let frame = self.frame;
         match frame {
@@ -266,7 +266,7 @@ impl Eeprom {
 
     // A record of channel E with the supply on.
     fn powered(self, e: EepromEvent, lock: bool, wired: u8) -> EepromStep
-        ensures { result ≡ poweredOf self e lock wired }
+        ensures { result ≡ powered_of self e lock wired }
     {
         match e {
             EepromEvent::Start => self.started(),
@@ -279,7 +279,7 @@ impl Eeprom {
 
     // With the supply off bus records are silent, but `end` finds no cycle.
     fn unpowered(self, e: EepromEvent) -> EepromStep
-        ensures { result ≡ unpoweredOf self e }
+        ensures { result ≡ unpowered_of self e }
     {
         match e {
             EepromEvent::Start => self.silent_in(EepromFrame::Void),

@@ -1,12 +1,12 @@
 // The numbers that frames, cycles and counters are compared by.
 ghost use Rattle.std.specs.Prelude.{◌≡◌};
-ghost use Rattle.eeprom.specs.Same.{frameNumbers, cycleNumbers, counterNumbers};
+ghost use Rattle.eeprom.specs.Same.{frame_numbers, cycle_numbers, counter_numbers};
 
 use crate::{EepromCounter, EepromCycle, EepromFrame};
 use law::Numbers;
 
 pub(crate) fn frame_numbers(frame: EepromFrame) -> Numbers
-    ensures { result ≡ frameNumbers frame }
+    ensures { result ≡ frame_numbers frame }
 {
     match frame {
         EepromFrame::Idle => law::numbers_of(0, 0, 0, 0, 0),
@@ -26,7 +26,7 @@ pub(crate) fn frame_numbers(frame: EepromFrame) -> Numbers
 }
 
 pub(crate) fn cycle_numbers(cycle: EepromCycle) -> Numbers
-    ensures { result ≡ cycleNumbers cycle }
+    ensures { result ≡ cycle_numbers cycle }
 {
     match cycle {
         EepromCycle::None => law::numbers_of(0, 0, 0, 0, 0),
@@ -35,7 +35,7 @@ pub(crate) fn cycle_numbers(cycle: EepromCycle) -> Numbers
 }
 
 pub(crate) fn counter_numbers(counter: EepromCounter) -> Numbers
-    ensures { result ≡ counterNumbers counter }
+    ensures { result ≡ counter_numbers counter }
 {
     match counter {
         EepromCounter::Lost => law::numbers_of(0, 0, 0, 0, 0),

@@ -1,12 +1,12 @@
 // The places that a write is for (document 01, 'EEPROM rules', Write).
 ghost use Rattle.std.specs.Prelude.{◌≡◌};
-ghost use Rattle.eeprom.specs.Write.{nextInPage, putByte, counted, sentBy};
+ghost use Rattle.eeprom.specs.Write.{next_in_page, put_byte, counted, sent_by};
 
 use crate::{EepromPage, Sent};
 
 // The place after one, in the page's own rolling.
 pub(crate) fn next_in_page(place: u32) -> u32
-    ensures { result ≡ nextInPage place }
+    ensures { result ≡ next_in_page place }
 {
     place / page::EEPROM_PAGE * page::EEPROM_PAGE
         + page::rolled(place % page::EEPROM_PAGE, page::EEPROM_PAGE - 1)
@@ -14,7 +14,7 @@ pub(crate) fn next_in_page(place: u32) -> u32
 
 // A later byte for a place replaces the earlier.
 pub(crate) fn put_byte(place: u32, b: u8, bytes: EepromPage) -> EepromPage
-    ensures { result ≡ putByte place b bytes }
+    ensures { result ≡ put_byte place b bytes }
 {
     let mut next = bytes;
     let at = (place % page::EEPROM_PAGE) as usize;
@@ -35,7 +35,7 @@ pub(crate) fn one_more(count: u32) -> u32
 
 // The places of so many data bytes, by the next one's place.
 pub(crate) fn sent_by(next: u32, count: u32) -> Sent
-    ensures { result ≡ sentBy next count }
+    ensures { result ≡ sent_by next count }
 {
     if count < page::EEPROM_PAGE {
         Sent {

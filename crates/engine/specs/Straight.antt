@@ -4,11 +4,11 @@ use Rattle.meaning.specs.Meaning.{after}
 use Rattle.record.specs.declared.Board.{Board}
 use Rattle.record.specs.declared.Record.{Record}
 use Rattle.image.specs.Images.{Images}
-use Rattle.machine.specs.Machine.{machineAtStart, onMachine}
+use Rattle.machine.specs.Machine.{machine_at_start, on_machine}
 use Rattle.capture.specs.Most.{most}
 use Rattle.weave.specs.declared.Weave.{Weave}
 use Rattle.weave.specs.Weaving.{Left}
 
 -- from the images x they lead to y
 pub record PlaysAll (levels trace : List ℕ) (w : Weave) (b : Board) (x y : Images) : Type 0 where
-  pub plays : (m : List Record) → Left levels trace w m → length m ≤ most → y ≡ (after (onMachine b) m (machineAtStart b x)).images
+  pub plays : (m : List Record) → Left levels trace w m → length m ≤ most → y ≡ (after (on_machine b) m (machine_at_start b x)).images

@@ -1,8 +1,8 @@
 // The second engine (document 02, request 4/12): the levels are played straight through, record by record as they arise, on the caller's own images. No trace is written and no stamp
 // gathered, and no order tried.
 ghost use Rattle.std.specs.Prelude.{◌≡◌};
-ghost use Rattle.image.specs.Images.{imagesOf};
-ghost use Rattle.engine.specs.Playing.{lent_of, playedAs, Plays};
+ghost use Rattle.image.specs.Images.{images_of};
+ghost use Rattle.engine.specs.Playing.{lent_of, played_as, Plays};
 ghost use Rattle.engine.specs.Straight.{PlaysAll};
 
 use controls::Controls;
@@ -21,8 +21,8 @@ fn play_all(
     eeprom: &mut [u8],
     eeprom_mask: &mut [u8],
 )
-    ensures { PlaysAll levels.now trace.now start board (imagesOf flash.old flash_mask.old eeprom.old eeprom_mask.old)
-        (imagesOf flash.new flash_mask.new eeprom.new eeprom_mask.new) }
+    ensures { PlaysAll levels.now trace.now start board (images_of flash.old flash_mask.old eeprom.old eeprom_mask.old)
+        (images_of flash.new flash_mask.new eeprom.new eeprom_mask.new) }
 {
     let mut w = start;
     let mut cur = Controls::start(board);
@@ -52,7 +52,7 @@ pub fn play_levels(
 ) -> u32
     ensures { Plays levels.now trace.now
         (lent_of flash.old flash_mask.old eeprom.old eeprom_mask.old res.old)
-        (playedAs result (lent_of flash.new flash_mask.new eeprom.new eeprom_mask.new res.new)) }
+        (played_as result (lent_of flash.new flash_mask.new eeprom.new eeprom_mask.new res.new)) }
 {
     if !buffers::fits_images(flash, flash_mask, eeprom, eeprom_mask, res) {
         return buffers::put_answer(res, record::answer_number(Answer::BadBuffers), 0, 0, 0);

@@ -6,55 +6,55 @@ use Prim.Native.Nat.{ℕ}
 use Rattle.tied.specs.Orders
 use Rattle.tied.specs.Control.{Control, Lawful, fetches, plain}
 use Rattle.tied.proofs.Parts as parts
-use Rattle.tied.proofs.Parts.{Effects, busWith, replyWith, lineWith, skeletons-are-enough, all-is-enough, one-part, one-delivered, one_told}
+use Rattle.tied.proofs.Parts.{Effects, bus_with, reply_with, line_with, skeletons_are_enough, all_is_enough, one_part, one_delivered, one_told}
 use Rattle.law.specs.Words.{All}
 use Rattle.meaning.specs.Meaning.{Channel, L, of, Allowed, Alike, after, replies}
-use Rattle.meaning.proofs.Allowing.{in-channel}
-use Rattle.meaning.proofs.Chips.{heard, Sees, Beside, ordered, sees, hears, chip-agrees, chip-decided, whole_part, part-whole}
+use Rattle.meaning.proofs.Allowing.{in_channel}
+use Rattle.meaning.proofs.Chips.{heard, Sees, Beside, ordered, sees, hears, chip_agrees, chip_decided, whole_part, part_whole}
 use Rattle.record.specs.declared.Board.{Board}
 use Rattle.record.specs.declared.Record.{Record}
 use Rattle.record.specs.declared.Reply.{Reply}
 use Rattle.record.specs.declared.Reply.TheVariants as reply
 use Rattle.record.specs.declared.Skeleton.{Skeleton}
 use Rattle.record.specs.declared.Skeleton.TheVariants.{Silent, Given, Fetch, Ack, NoAck, Starts, Ends, NoCycle}
-use Rattle.record.specs.Told.{skeletonKind, Telling}
+use Rattle.record.specs.Told.{skeleton_kind, Telling}
 use Rattle.controls.specs.declared.Controls.{Controls}
 use Rattle.image.specs.Image.{Image}
 use Rattle.orders.specs.Stamp.{played}
 use Rattle.orders.specs.Verdicts.{OrdersAgree}
 use Rattle.machine.specs.Replies.{delivered}
-use Rattle.machine.specs.Machine.{Machine, onMachine, onControls}
-use Rattle.enough.proofs.AtStamp.{atStamp}
+use Rattle.machine.specs.Machine.{Machine, on_machine, on_controls}
+use Rattle.enough.proofs.AtStamp.{at_stamp}
 use Rattle.machine.proofs.Memory.{Memory}
 
 -- ---- replies
 -- only a fetched byte depends on the image
-pub deliver-plain : (r : Record) (k : Skeleton) (i j : Image) → (skeletonKind k ≡ fetches → ⊥) → delivered i k ≡ delivered j k
+pub deliver_plain : (r : Record) (k : Skeleton) (i j : Image) → (skeleton_kind k ≡ fetches → ⊥) → delivered i k ≡ delivered j k
 unfolding delivered
-deliver-plain r Silent i j n = refl
-deliver-plain r (Given x) i j n = refl
-deliver-plain r (Fetch p) i j n = absurd (n refl)
-deliver-plain r Ack i j n = refl
-deliver-plain r NoAck i j n = refl
-deliver-plain r Starts i j n = refl
-deliver-plain r Ends i j n = refl
-deliver-plain r NoCycle i j n = refl
+deliver_plain r Silent i j n = refl
+deliver_plain r (Given x) i j n = refl
+deliver_plain r (Fetch p) i j n = absurd (n refl)
+deliver_plain r Ack i j n = refl
+deliver_plain r NoAck i j n = refl
+deliver_plain r Starts i j n = refl
+deliver_plain r Ends i j n = refl
+deliver_plain r NoCycle i j n = refl
 
 -- a delivered byte was given, or fetched from the place that was told
-abbrev readByte : Skeleton → ℕ → Skeleton
-readByte Silent v = Given v
-readByte (Given x) v = Given v
-readByte (Fetch p) v = Fetch p
-readByte Ack v = Given v
-readByte NoAck v = Given v
-readByte Starts v = Given v
-readByte Ends v = Given v
-readByte NoCycle v = Given v
+abbrev read_byte : Skeleton → ℕ → Skeleton
+read_byte Silent v = Given v
+read_byte (Given x) v = Given v
+read_byte (Fetch p) v = Fetch p
+read_byte Ack v = Given v
+read_byte NoAck v = Given v
+read_byte Starts v = Given v
+read_byte Ends v = Given v
+read_byte NoCycle v = Given v
 
 abbrev read : Record → Skeleton → Reply → Skeleton
 read r h reply.NotPlayed = Silent
 read r h reply.Silent = Silent
-read r h (reply.Byte v m) = readByte h v
+read r h (reply.Byte v m) = read_byte h v
 read r h reply.Ack = Ack
 read r h reply.NoAck = NoAck
 read r h reply.Starts = Starts
@@ -82,68 +82,68 @@ module _ (b : Board) (t : ℕ) (c : Channel) {C Run Told : Type 0} (X : Control 
     pub lawful : Lawful X
     pub plain : (r : Record) (k : Skeleton) (i j : Memory) → (X.kind k ≡ fetches → ⊥) → Y.deliver i r k ≡ Y.deliver j r k
     pub reads : (r : Record) (k h : Skeleton) (i : Memory) → X.Telling k h → read r h (Y.deliver i r k) ≡ k
-    pub controls : Sees (onControls b) c side X.bus X.skel X.line
-    pub beside : Beside (onControls b) c side rest
-    pub whole : Sees (atStamp b t) c (see side memory) (busWith X Y) (replyWith X Y) (lineWith X Y)
+    pub controls : Sees (on_controls b) c side X.bus X.skel X.line
+    pub beside : Beside (on_controls b) c side rest
+    pub whole : Sees (at_stamp b t) c (see side memory) (bus_with X Y) (reply_with X Y) (line_with X Y)
 
 module _ {b : Board} {t : ℕ} {c : Channel} {C Run Told : Type 0} {X : Control C Record Record Skeleton Run Told} {Y : Effects Record Skeleton Reply Memory Run} {side : Controls → C} {memory : Machine → Memory} {rest : Controls → Controls}
     (Z : OneChip b t c X Y side memory rest) where
   -- it stays good
-  good-heard : (x y : Bool) (w : C) (r : Record) → X.Good w → X.Good (heard X.bus X.line x y w r)
+  good_heard : (x y : Bool) (w : C) (r : Record) → X.Good w → X.Good (heard X.bus X.line x y w r)
   unfolding heard
-  good-heard true y w r g = Z.lawful.good-bus w r g
-  good-heard false true w r g = Z.lawful.good-line w r g
-  good-heard false false w r g = g
+  good_heard true y w r g = Z.lawful.good_bus w r g
+  good_heard false true w r g = Z.lawful.good_line w r g
+  good_heard false false w r g = g
 
-  pub chip-good : (s : Controls) (r : Record) → X.Good (side s) → X.Good (side (played b s r))
-  chip-good s r g = subst X.Good (sym (Z.controls.plays s r)) (good-heard _ _ (side s) r g)
+  pub chip_good : (s : Controls) (r : Record) → X.Good (side s) → X.Good (side (played b s r))
+  chip_good s r g = subst X.Good (sym (Z.controls.plays s r)) (good_heard _ _ (side s) r g)
 
   module _ (p : List Record) (m : Machine) (good : X.Good (side m.controls)) where
     -- where its orders with the lines agree on the controls, it sees and says the same in any two allowed orders
-    pub chip-alike : OrdersAgree b (of (onMachine b) c p) (of (onMachine b) L p) m.controls → (o q : List Record) → Allowed (atStamp b t) p o → Allowed (atStamp b t) p q →
-        (see side memory (after (atStamp b t) o m) ≡ see side memory (after (atStamp b t) q m)) × (replies (atStamp b t) c o m ≡ replies (atStamp b t) c q m)
+    pub chip_alike : OrdersAgree b (of (on_machine b) c p) (of (on_machine b) L p) m.controls → (o q : List Record) → Allowed (at_stamp b t) p o → Allowed (at_stamp b t) p q →
+        (see side memory (after (at_stamp b t) o m) ≡ see side memory (after (at_stamp b t) q m)) × (replies (at_stamp b t) c o m ≡ replies (at_stamp b t) c q m)
     unfolding OrdersAgree
-    chip-alike h =
-        chip-agrees (atStamp b t) c _ _ _ _ Z.whole p m
-        (skeletons-are-enough X Y Z.lawful Z.plain _ _ (see side memory m) good
-        (whole_part (onControls b) c side _ _ _ Z.controls _ _ (in-channel (onMachine b) c p) (in-channel (onMachine b) L p) m.controls h))
+    chip_alike h =
+        chip_agrees (at_stamp b t) c _ _ _ _ Z.whole p m
+        (skeletons_are_enough X Y Z.lawful Z.plain _ _ (see side memory m) good
+        (whole_part (on_controls b) c side _ _ _ Z.controls _ _ (in_channel (on_machine b) c p) (in_channel (on_machine b) L p) m.controls h))
 
     -- and where all allowed orders of one stamp end alike on the machine, its orders agree on the controls
-    pub alike-chip : All (λ (r : Record). r.stamp ≡ t) p → Alike (atStamp b t) p m → OrdersAgree b (of (onMachine b) c p) (of (onMachine b) L p) m.controls
+    pub alike_chip : All (λ (r : Record). r.stamp ≡ t) p → Alike (at_stamp b t) p m → OrdersAgree b (of (on_machine b) c p) (of (on_machine b) L p) m.controls
     unfolding OrdersAgree
-    alike-chip hp h =
-        part-whole (onControls b) c side _ _ _ Z.controls rest Z.beside _ _ (in-channel (onMachine b) c p) (in-channel (onMachine b) L p) m.controls
-        (all-is-enough X Y Z.lawful Z.plain read Z.reads _ _ (see side memory m) good (chip-decided (atStamp b t) c _ _ _ _ Z.whole p t hp m h))
+    alike_chip hp h =
+        part_whole (on_controls b) c side _ _ _ Z.controls rest Z.beside _ _ (in_channel (on_machine b) c p) (in_channel (on_machine b) L p) m.controls
+        (all_is_enough X Y Z.lawful Z.plain read Z.reads _ _ (see side memory m) good (chip_decided (at_stamp b t) c _ _ _ _ Z.whole p t hp m h))
 
   -- two lists with the same records of the chip, in any order with the lines'
-  module _ (o q : List Record) (same-records : of (onMachine b) c o ≡ of (onMachine b) c q) (m : Machine) (good : X.Good (side m.controls)) where
+  module _ (o q : List Record) (same-records : of (on_machine b) c o ≡ of (on_machine b) c q) (m : Machine) (good : X.Good (side m.controls)) where
     -- the chip says the same in both on the machine: then its skeletons on the controls are the same
-    pub told-alike : replies (atStamp b t) c o m ≡ replies (atStamp b t) c q m → replies (onControls b) c o m.controls ≡ replies (onControls b) c q m.controls
-    told-alike h =
-        hears (onControls b) c _ _ _ _ Z.controls o m.controls
-        ∙ one_told X Y Z.lawful Z.plain read Z.reads (ordered (onMachine b) c o) (ordered (onMachine b) c q) (see side memory m) good same-records
-        (sym (hears (atStamp b t) c _ _ _ _ Z.whole o m) ∙ h ∙ hears (atStamp b t) c _ _ _ _ Z.whole q m)
-        ∙ sym (hears (onControls b) c _ _ _ _ Z.controls q m.controls)
+    pub told_alike : replies (at_stamp b t) c o m ≡ replies (at_stamp b t) c q m → replies (on_controls b) c o m.controls ≡ replies (on_controls b) c q m.controls
+    told_alike h =
+        hears (on_controls b) c _ _ _ _ Z.controls o m.controls
+        ∙ one_told X Y Z.lawful Z.plain read Z.reads (ordered (on_machine b) c o) (ordered (on_machine b) c q) (see side memory m) good same-records
+        (sym (hears (at_stamp b t) c _ _ _ _ Z.whole o m) ∙ h ∙ hears (at_stamp b t) c _ _ _ _ Z.whole q m)
+        ∙ sym (hears (on_controls b) c _ _ _ _ Z.controls q m.controls)
 
     -- and where its skeletons are the same, so is what it says; with its last control, so is its memory
-    module _ (h : replies (onControls b) c o m.controls ≡ replies (onControls b) c q m.controls) where
-      abbrev skeletonsOf : List Record → List Skeleton
-      skeletonsOf l = Orders.replies X.bus X.skel X.line (ordered (onMachine b) c l) (side m.controls)
+    module _ (h : replies (on_controls b) c o m.controls ≡ replies (on_controls b) c q m.controls) where
+      abbrev skeletons_of : List Record → List Skeleton
+      skeletons_of l = Orders.replies X.bus X.skel X.line (ordered (on_machine b) c l) (side m.controls)
 
-      skeletons-alike : skeletonsOf o ≡ skeletonsOf q
-      skeletons-alike = sym (hears (onControls b) c _ _ _ _ Z.controls o m.controls) ∙ h ∙ hears (onControls b) c _ _ _ _ Z.controls q m.controls
+      skeletons_alike : skeletons_of o ≡ skeletons_of q
+      skeletons_alike = sym (hears (on_controls b) c _ _ _ _ Z.controls o m.controls) ∙ h ∙ hears (on_controls b) c _ _ _ _ Z.controls q m.controls
 
-      pub said-alike : replies (atStamp b t) c o m ≡ replies (atStamp b t) c q m
-      said-alike =
-          hears (atStamp b t) c _ _ _ _ Z.whole o m
-          ∙ one-delivered X Y Z.lawful Z.plain (ordered (onMachine b) c o) (ordered (onMachine b) c q) (see side memory m) good same-records skeletons-alike
-          ∙ sym (hears (atStamp b t) c _ _ _ _ Z.whole q m)
+      pub said_alike : replies (at_stamp b t) c o m ≡ replies (at_stamp b t) c q m
+      said_alike =
+          hears (at_stamp b t) c _ _ _ _ Z.whole o m
+          ∙ one_delivered X Y Z.lawful Z.plain (ordered (on_machine b) c o) (ordered (on_machine b) c q) (see side memory m) good same-records skeletons_alike
+          ∙ sym (hears (at_stamp b t) c _ _ _ _ Z.whole q m)
 
-      pub seen_alike : side (after (atStamp b t) o m).controls ≡ side (after (atStamp b t) q m).controls → see side memory (after (atStamp b t) o m) ≡ see side memory (after (atStamp b t) q m)
+      pub seen_alike : side (after (at_stamp b t) o m).controls ≡ side (after (at_stamp b t) q m).controls → see side memory (after (at_stamp b t) o m) ≡ see side memory (after (at_stamp b t) q m)
       seen_alike k =
-          let at-o = sees (atStamp b t) c _ _ _ _ Z.whole o m in
-          let at-q = sees (atStamp b t) c _ _ _ _ Z.whole q m in
+          let at-o = sees (at_stamp b t) c _ _ _ _ Z.whole o m in
+          let at-q = sees (at_stamp b t) c _ _ _ _ Z.whole q m in
           at-o
-          ∙ one-part X Y Z.lawful Z.plain (ordered (onMachine b) c o) (ordered (onMachine b) c q) (see side memory m) good same-records skeletons-alike
+          ∙ one_part X Y Z.lawful Z.plain (ordered (on_machine b) c o) (ordered (on_machine b) c q) (see side memory m) good same-records skeletons_alike
           (sym (ap (λ (y : parts.Part C Memory). y.control) at-o) ∙ k ∙ ap (λ (y : parts.Part C Memory). y.control) at-q)
           ∙ sym at-q

@@ -5,25 +5,25 @@ use Rattle.meaning.specs.Meaning.{Channel, most, of, Alike}
 use Rattle.record.specs.declared.Board.{Board}
 use Rattle.record.specs.declared.Record.{Record}
 use Rattle.controls.specs.declared.Controls.{Controls}
-use Rattle.controls.specs.Sides.{flashSide, eepromSide}
+use Rattle.controls.specs.Sides.{flash_side, eeprom_side}
 use Rattle.flash.specs.Good as flash-good
 use Rattle.eeprom.specs.Good as eeprom-good
 use Rattle.orders.specs.declared.Held.{Held}
 use Rattle.orders.specs.Verdicts.{count_of, array_of, BusesAgree}
-use Rattle.machine.specs.Machine.{Machine, onMachine}
+use Rattle.machine.specs.Machine.{Machine, on_machine}
 
 -- controls that are reached
 pub record Good (c : Controls) : Type 0 where
-  pub flash : flash-good.Good (flashSide c)
-  pub eeprom : eeprom-good.Good (eepromSide c)
+  pub flash : flash-good.Good (flash_side c)
+  pub eeprom : eeprom-good.Good (eeprom_side c)
 
 -- of the records of one stamp: where each bus's orders with the lines agree on the controls, all allowed orders end alike on the machine
 abbrev pub ControlsDecide : Board → List Record → Machine → Type 0
-ControlsDecide b p m = (t : ℕ) → All (λ (r : Record). r.stamp ≡ t) p → BusesAgree b (λ c. of (onMachine b) c p) m.controls → Alike (onMachine b) p m
+ControlsDecide b p m = (t : ℕ) → All (λ (r : Record). r.stamp ≡ t) p → BusesAgree b (λ c. of (on_machine b) c p) m.controls → Alike (on_machine b) p m
 
 -- and only there
 abbrev pub Decided : Board → List Record → Machine → Type 0
-Decided b p m = (t : ℕ) → All (λ (r : Record). r.stamp ≡ t) p → Alike (onMachine b) p m → BusesAgree b (λ c. of (onMachine b) c p) m.controls
+Decided b p m = (t : ℕ) → All (λ (r : Record). r.stamp ≡ t) p → Alike (on_machine b) p m → BusesAgree b (λ c. of (on_machine b) c p) m.controls
 
 -- what is held of a channel: its records, and one more than the most where there are more
 pub record HoldsMost (most count : ℕ) (array xs : List Record) : Type 0 where
@@ -32,4 +32,4 @@ pub record HoldsMost (most count : ℕ) (array xs : List Record) : Type 0 where
 
 -- the records p of one stamp are held
 abbrev pub Holds : Board → Held → List Record → Type 0
-Holds b h p = (c : Channel) → HoldsMost (most c) (count_of h c) (array_of h c) (of (onMachine b) c p)
+Holds b h p = (c : Channel) → HoldsMost (most c) (count_of h c) (array_of h c) (of (on_machine b) c p)

@@ -6,7 +6,7 @@ use Rattle.record.specs.declared.Board.{Board}
 use Rattle.record.specs.declared.Record.{Record}
 use Rattle.record.specs.declared.Reply.{Reply}
 use Rattle.image.specs.Images.{Images}
-use Rattle.machine.specs.Machine.{Machine, machineAtStart, onMachine}
+use Rattle.machine.specs.Machine.{Machine, machine_at_start, on_machine}
 
 -- two orders end alike in all else: in the controls, in the images, and in each channel's replies
 pub record AllElse (v w : Outcome Machine Reply) : Type 0 where
@@ -16,9 +16,9 @@ pub record AllElse (v w : Outcome Machine Reply) : Type 0 where
 
 -- p the records of one stamp, played from m: where two allowed orders of them end alike in all else, they leave the same time for every page of both chips
 abbrev pub TimesFollow : Board → Machine → Type 0
-TimesFollow b m = (t : ℕ) (p o q : List Record) → All (λ (r : Record). r.stamp ≡ t) p → Allowed (onMachine b) p o → Allowed (onMachine b) p q →
-    AllElse (outcome (onMachine b) o m) (outcome (onMachine b) q m) → (outcome (onMachine b) o m).state.times ≡ (outcome (onMachine b) q m).state.times
+TimesFollow b m = (t : ℕ) (p o q : List Record) → All (λ (r : Record). r.stamp ≡ t) p → Allowed (on_machine b) p o → Allowed (on_machine b) p q →
+    AllElse (outcome (on_machine b) o m) (outcome (on_machine b) q m) → (outcome (on_machine b) o m).state.times ≡ (outcome (on_machine b) q m).state.times
 
 -- so it is of every machine that any records reach from the start, whatever the images held; a board's status is a byte
 abbrev pub NoOwnDifference : Type 0
-NoOwnDifference = (b : Board) → b.status < 256 → (x : Images) (rs : List Record) → TimesFollow b (after (onMachine b) rs (machineAtStart b x))
+NoOwnDifference = (b : Board) → b.status < 256 → (x : Images) (rs : List Record) → TimesFollow b (after (on_machine b) rs (machine_at_start b x))

@@ -5,30 +5,30 @@ use mathlib.Core.Path.{◌≡◌, refl, sym, ap, ◌∙◌}
 use mathlib.Core.Logic.{inl, inr}
 use mathlib.Core.List.{List, [], ◌∷◌, ◌++◌}
 use lib.ListN.{length, get_or}
-use Rattle.field.specs.Hex.{hexField}
+use Rattle.field.specs.Hex.{hex_field}
 use Rattle.field.specs.Ends.{lf}
 use Rattle.field.specs.Reads.{Stands}
 use Rattle.field.proofs.Reading.{Got}
 use Rattle.field.proofs.Answers.{No}
-use Rattle.entries.specs.Reading.{ReadsStatus, noStatus}
+use Rattle.entries.specs.Reading.{ReadsStatus, no_status}
 
 -- the digits of a text that spells a status
-at-start : (text : List ℕ) (s : ℕ) → text ≡ hexField s ++ lf → Stands text 0 (hexField s)
-at-start text s e = record { rest = lf; is = e }
+at_start : (text : List ℕ) (s : ℕ) → text ≡ hex_field s ++ lf → Stands text 0 (hex_field s)
+at_start text s e = record { rest = lf; is = e }
 
-unspelled : (text : List ℕ) → ((s : ℕ) → s < 256 → text ≡ hexField s ++ lf → ⊥) → ReadsStatus text noStatus
+unspelled : (text : List ℕ) → ((s : ℕ) → s < 256 → text ≡ hex_field s ++ lf → ⊥) → ReadsStatus text no_status
 unspelled text none = record { found = λ s h e. absurd (none s h e); only = inl refl }
 
-pub not_three : (text : List ℕ) → (length text ≡ 3 → ⊥) → ReadsStatus text noStatus
-unfolding hexField
+pub not_three : (text : List ℕ) → (length text ≡ 3 → ⊥) → ReadsStatus text no_status
+unfolding hex_field
 not_three text n = unspelled text (λ s h e. n (ap length e))
 
-pub no-lf : (text : List ℕ) → (get_or text 2 0 ≡ 10 → ⊥) → ReadsStatus text noStatus
-unfolding hexField
-no-lf text n = unspelled text (λ s h e. n (ap (λ (l : List ℕ). get_or l 2 0) e))
+pub no_lf : (text : List ℕ) → (get_or text 2 0 ≡ 10 → ⊥) → ReadsStatus text no_status
+unfolding hex_field
+no_lf text n = unspelled text (λ s h e. n (ap (λ (l : List ℕ). get_or l 2 0) e))
 
-pub no-hex : (text : List ℕ) → No hexField (λ n. n < 256) text 0 → ReadsStatus text noStatus
-no-hex text n = unspelled text (λ s h e. n s h (at-start text s e))
+pub no_hex : (text : List ℕ) → No hex_field (λ n. n < 256) text 0 → ReadsStatus text no_status
+no_hex text n = unspelled text (λ s h e. n s h (at_start text s e))
 
 -- one byte, which is LF
 one_byte : (rest : List ℕ) → length rest ≡ 1 → get_or rest 0 0 ≡ 10 → rest ≡ lf
@@ -36,12 +36,12 @@ one_byte [] l e = absurd (omega arith)
 one_byte (b ∷ []) l e = ap (λ (k : ℕ). k ∷ []) e
 one_byte (b ∷ (d ∷ rest)) l e = absurd (omega arith)
 
-pub spelled : (text : List ℕ) (s p : ℕ) → length text ≡ 3 → get_or text 2 0 ≡ 10 → Got hexField (λ n. n < 256) text 0 s p → ReadsStatus text s
-unfolding hexField
+pub spelled : (text : List ℕ) (s p : ℕ) → length text ≡ 3 → get_or text 2 0 ≡ 10 → Got hex_field (λ n. n < 256) text 0 s p → ReadsStatus text s
+unfolding hex_field
 spelled text s p l e g =
-    let is : text ≡ hexField s ++ g.stands.rest = g.stands.is in
+    let is : text ≡ hex_field s ++ g.stands.rest = g.stands.is in
     let rest = one_byte g.stands.rest (omega (arith, ap length is)) (sym (ap (λ (k : List ℕ). get_or k 2 0) is) ∙ e) in
     record {
-      found = λ x h f. g.only x h (at-start text x f);
-      only = inr (is ∙ ap (λ (k : List ℕ). hexField s ++ k) rest);
+      found = λ x h f. g.only x h (at_start text x f);
+      only = inr (is ∙ ap (λ (k : List ℕ). hex_field s ++ k) rest);
     }

@@ -2,7 +2,7 @@
 ghost use Rattle.std.specs.Prelude.{◌≡◌, length};
 ghost use Rattle.std.proofs.lemmas.List.Edits.{sets};
 ghost use Rattle.entries.specs.Printed.{PrintsPlan};
-ghost use Rattle.entries.specs.Lines.{outcomeLines, Ready};
+ghost use Rattle.entries.specs.Lines.{outcome_lines, Ready};
 
 mod lines;
 mod list;
@@ -15,7 +15,7 @@ pub const ROOM: usize = (2 * page::FLASH_PAGE as usize + 16) * page::CHIP_PAGES 
 // What the call of the plan gave, from the output's start on: by its answer the entries' lines and their number, or the refusal. How many bytes.
 fn print_outcome(answer: u32, list: &[u8], res: &[u8], out: &mut [u8]) -> usize
     requires { Ready answer list.now res.now (length out.old) }
-    ensures { (result ≡ length (outcomeLines answer list.now res.now)) × (out.new ≡ sets out.old 0 (outcomeLines answer list.now res.now)) }
+    ensures { (result ≡ length (outcome_lines answer list.now res.now)) × (out.new ≡ sets out.old 0 (outcome_lines answer list.now res.now)) }
 {
     if answer != 0 {
         return output::copy_line(lines::refusal_line(answer), out, 0);

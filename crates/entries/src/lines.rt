@@ -1,13 +1,13 @@
 // The lines, and the beginnings of lines, that are put together before they are copied out.
 ghost use Rattle.std.specs.Prelude.{◌≡◌, [], ◌∷◌};
-ghost use Rattle.field.specs.Spelling.{noBytes, put_all};
-ghost use Rattle.entries.specs.Printed.{hexBytes, cyclesLine, refusalLine};
-ghost use Rattle.entries.specs.Lines.{kindWord, addressEnd, headLine};
+ghost use Rattle.field.specs.Spelling.{no_bytes, put_all};
+ghost use Rattle.entries.specs.Printed.{hex_bytes, cycles_line, refusal_line};
+ghost use Rattle.entries.specs.Lines.{kind_word, address_end, head_line};
 
 use field::Spelling;
 
 fn put_kind(s: Spelling, kind: u8) -> Spelling
-    ensures { result ≡ put_all s (kindWord kind) }
+    ensures { result ≡ put_all s (kind_word kind) }
 {
     if kind == planner::PAGE_PROGRAM {
         return field::put_word(s, b"program");
@@ -20,7 +20,7 @@ fn put_kind(s: Spelling, kind: u8) -> Spelling
 
 // The three bytes of an address, high byte first.
 fn put_address(s: Spelling, high: u8, middle: u8, low: u8) -> Spelling
-    ensures { result ≡ put_all s (hexBytes (high ∷ middle ∷ low ∷ [])) }
+    ensures { result ≡ put_all s (hex_bytes (high ∷ middle ∷ low ∷ [])) }
 {
     let s1 = field::put_hex(s, high);
     let s2 = field::put_hex(s1, middle);
@@ -29,7 +29,7 @@ fn put_address(s: Spelling, high: u8, middle: u8, low: u8) -> Spelling
 
 // A program's page follows its address.
 fn put_end(s: Spelling, kind: u8) -> Spelling
-    ensures { result ≡ put_all s (addressEnd kind) }
+    ensures { result ≡ put_all s (address_end kind) }
 {
     if kind == planner::PAGE_PROGRAM {
         return field::put_word(s, b"\t");
@@ -39,7 +39,7 @@ fn put_end(s: Spelling, kind: u8) -> Spelling
 
 // Kind and address.
 pub(crate) fn head_line(kind: u8, high: u8, middle: u8, low: u8) -> Spelling
-    ensures { result ≡ put_all noBytes (headLine kind high middle low) }
+    ensures { result ≡ put_all no_bytes (head_line kind high middle low) }
 {
     let s1 = put_kind(field::no_bytes(), kind);
     let s2 = field::put_word(s1, b"\t");
@@ -49,7 +49,7 @@ pub(crate) fn head_line(kind: u8, high: u8, middle: u8, low: u8) -> Spelling
 
 // The number of cycles.
 pub(crate) fn cycles_line(number: u32) -> Spelling
-    ensures { result ≡ put_all noBytes (cyclesLine number) }
+    ensures { result ≡ put_all no_bytes (cycles_line number) }
 {
     let s1 = field::put_word(field::no_bytes(), b"cycles\t");
     let s2 = field::put_decimal(s1, number);
@@ -58,7 +58,7 @@ pub(crate) fn cycles_line(number: u32) -> Spelling
 
 // A refusal's number.
 pub(crate) fn refusal_line(answer: u32) -> Spelling
-    ensures { result ≡ put_all noBytes (refusalLine answer) }
+    ensures { result ≡ put_all no_bytes (refusal_line answer) }
 {
     let s1 = field::put_word(field::no_bytes(), b"refused\t");
     let s2 = field::put_decimal(s1, answer);

@@ -1,13 +1,13 @@
 // The lines of the entries of a list.
 ghost use Rattle.std.specs.Prelude.{◌≡◌, ◌+◌, ◌≤◌, length};
 ghost use Rattle.std.proofs.lemmas.List.Edits.{sets};
-ghost use Rattle.entries.specs.Lines.{kind_at, entrySize, line_at, lines_from, Inside};
+ghost use Rattle.entries.specs.Lines.{kind_at, entry_size, line_at, lines_from, Inside};
 
 use crate::{lines, output};
 
 // How many bytes an entry of that kind has.
 fn entry_size(kind: u8) -> usize
-    ensures { result ≡ entrySize kind }
+    ensures { result ≡ entry_size kind }
 {
     if kind == planner::PAGE_PROGRAM {
         return planner::PROGRAM;
@@ -17,7 +17,7 @@ fn entry_size(kind: u8) -> usize
 
 // The line of the entry that stands in the list at a place, from a place of the output on; the place after it.
 fn print_entry(list: &[u8], from: usize, out: &mut [u8], first: usize) -> usize
-    requires { (from + entrySize (kind_at list.now from) ≤ length list.now) × (first + length (line_at list.now from) ≤ length out.old) }
+    requires { (from + entry_size (kind_at list.now from) ≤ length list.now) × (first + length (line_at list.now from) ≤ length out.old) }
     ensures { (result ≡ first + length (line_at list.now from)) × (out.new ≡ sets out.old first (line_at list.now from)) }
 {
     let kind = list[from];

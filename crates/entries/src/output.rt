@@ -1,13 +1,13 @@
 // What was put together is copied out, and a page's bytes are written out in hex.
 ghost use Rattle.std.specs.Prelude.{◌≡◌, ◌++◌, ◌+◌, ◌*◌, ◌≤◌, length};
 ghost use Rattle.std.proofs.lemmas.List.Edits.{sets};
-ghost use Rattle.page.specs.Geometry.{flashPage};
+ghost use Rattle.page.specs.Geometry.{flash_page};
 ghost use Rattle.field.specs.Ends.{lf};
-ghost use Rattle.field.specs.Hex.{hexField};
+ghost use Rattle.field.specs.Hex.{hex_field};
 ghost use Rattle.field.specs.Spelling.{held};
 ghost use Rattle.field.specs.Room.{room};
-ghost use Rattle.entries.specs.Printed.{hexBytes};
-ghost use Rattle.entries.specs.Lines.{pageAt};
+ghost use Rattle.entries.specs.Printed.{hex_bytes};
+ghost use Rattle.entries.specs.Lines.{page_at};
 
 use field::Spelling;
 
@@ -30,15 +30,15 @@ pub(crate) fn copy_line(s: Spelling, out: &mut [u8], at: usize) -> usize
 // A byte in hex, from a place of the output on; the place after it.
 fn print_byte(byte: u8, out: &mut [u8], at: usize) -> usize
     requires { at + 2 ≤ length out.old }
-    ensures { (result ≡ at + 2) × (out.new ≡ sets out.old at (hexField byte)) }
+    ensures { (result ≡ at + 2) × (out.new ≡ sets out.old at (hex_field byte)) }
 {
     copy_line(field::put_hex(field::no_bytes(), byte), out, at)
 }
 
 // The page that stands in the list at a place, in hex, and LF; the place after them.
 pub(crate) fn print_page(list: &[u8], from: usize, out: &mut [u8], first: usize) -> usize
-    requires { (from + flashPage ≤ length list.now) × (first + (2 * flashPage + 1) ≤ length out.old) }
-    ensures { (result ≡ first + (2 * flashPage + 1)) × (out.new ≡ sets out.old first (hexBytes (pageAt list.now from) ++ lf)) }
+    requires { (from + flash_page ≤ length list.now) × (first + (2 * flash_page + 1) ≤ length out.old) }
+    ensures { (result ≡ first + (2 * flash_page + 1)) × (out.new ≡ sets out.old first (hex_bytes (page_at list.now from) ++ lf)) }
 {
     let mut at = first;
     let mut k: usize = 0;

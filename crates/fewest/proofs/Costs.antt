@@ -6,39 +6,39 @@ use Prim.Native.Nat.{ℕ, suc, ◌+◌, ◌*◌, ◌/◌, ◌≤◌, ◌<◌}
 use native.Mathlib.Omega.{arith}
 use Rattle.law.specs.Words.{pick}
 use Rattle.law.specs.Choice.{split}
-use Rattle.flash.specs.Code.{sectorLocked}
-use Rattle.page.specs.Geometry.{flashSectors}
+use Rattle.flash.specs.Code.{sector_locked}
+use Rattle.page.specs.Geometry.{flash_sectors}
 use Rattle.fewest.specs.declared.Test.TheVariants.{Differs, Rises, Unblank}
-use Rattle.fewest.specs.Below.{sumBelow, countBelow, one, sum_same, sum-plus, sum-zero}
-use Rattle.fewest.specs.Plan.{inPage, inSector, pagesOf, erasesIn, erased, testIn, programsIn}
+use Rattle.fewest.specs.Below.{sum_below, count_below, one, sum_same, sum_plus, sum_zero}
+use Rattle.fewest.specs.Plan.{in_page, in_sector, pages_of, erases_in, erased, test_in, programs_in}
 
 module _ (present wanted : List ℕ) where
   -- a sector where a bit has to rise takes its erase and each page that is not all ff, another the pages that differ
-  abbrev pub sectorCost : ℕ → ℕ
-  sectorCost s = pick (inSector present wanted Rises s) (1 + pagesOf present wanted Unblank s) (pagesOf present wanted Differs s)
+  abbrev pub sector_cost : ℕ → ℕ
+  sector_cost s = pick (in_sector present wanted Rises s) (1 + pages_of present wanted Unblank s) (pages_of present wanted Differs s)
 
-  unfoldable pub costBySectors : ℕ
-  costBySectors = sumBelow flashSectors sectorCost
+  unfoldable pub cost_by_sectors : ℕ
+  cost_by_sectors = sum_below flash_sectors sector_cost
 
   module _ (status : ℕ) where
     -- the chip's erase, and each page of the unlocked sectors that is not all ff
-    abbrev pub unlockedCost : ℕ → ℕ
-    unlockedCost s = pick (sectorLocked status (suc s)) 0 (pagesOf present wanted Unblank s)
+    abbrev pub unlocked_cost : ℕ → ℕ
+    unlocked_cost s = pick (sector_locked status (suc s)) 0 (pages_of present wanted Unblank s)
 
-    unfoldable pub costByChip : ℕ
-    costByChip = 1 + sumBelow flashSectors unlockedCost
+    unfoldable pub cost_by_chip : ℕ
+    cost_by_chip = 1 + sum_below flash_sectors unlocked_cost
 
-    pub cost-sectors : erasesIn present wanted false + programsIn present wanted status false ≡ costBySectors
-    unfolding erasesIn programsIn costBySectors
-    cost-sectors =
-        sym (sum-plus flashSectors (λ s. one (inSector present wanted Rises s)) (λ s. pagesOf present wanted (testIn present wanted status false s) s))
-        ∙ sum_same flashSectors (λ s. one (inSector present wanted Rises s) + pagesOf present wanted (testIn present wanted status false s) s) sectorCost
-        (λ s l. split (inSector present wanted Rises s) (λ t. rw t refl) (λ t. rw t (omega arith)))
+    pub cost_sectors : erases_in present wanted false + programs_in present wanted status false ≡ cost_by_sectors
+    unfolding erases_in programs_in cost_by_sectors
+    cost_sectors =
+        sym (sum_plus flash_sectors (λ s. one (in_sector present wanted Rises s)) (λ s. pages_of present wanted (test_in present wanted status false s) s))
+        ∙ sum_same flash_sectors (λ s. one (in_sector present wanted Rises s) + pages_of present wanted (test_in present wanted status false s) s) sector_cost
+        (λ s l. split (in_sector present wanted Rises s) (λ t. rw t refl) (λ t. rw t (omega arith)))
 
     -- in a locked sector nothing differs
-    pub cost-chip : ((s : ℕ) → s < flashSectors → sectorLocked status (suc s) ≡ true → pagesOf present wanted Differs s ≡ 0) → erasesIn present wanted true + programsIn present wanted status true ≡ costByChip
-    unfolding erasesIn programsIn costByChip
-    cost-chip none =
+    pub cost_chip : ((s : ℕ) → s < flash_sectors → sector_locked status (suc s) ≡ true → pages_of present wanted Differs s ≡ 0) → erases_in present wanted true + programs_in present wanted status true ≡ cost_by_chip
+    unfolding erases_in programs_in cost_by_chip
+    cost_chip none =
         ap (λ (x : ℕ). 1 + x)
-        (sum_same flashSectors (λ s. pagesOf present wanted (testIn present wanted status true s) s) unlockedCost
-        (λ s l. split (sectorLocked status (suc s)) (λ t. rw t (none s l t)) (λ t. rw t refl)))
+        (sum_same flash_sectors (λ s. pages_of present wanted (test_in present wanted status true s) s) unlocked_cost
+        (λ s l. split (sector_locked status (suc s)) (λ t. rw t (none s l t)) (λ t. rw t refl)))

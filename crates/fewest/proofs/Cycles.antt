@@ -9,18 +9,18 @@ use Rattle.law.specs.Words.{All}
 use Rattle.law.specs.Choice.{split}
 use Rattle.fewest.specs.Entries.{Entry, starts, cycles}
 
-pub cycles-le : (s : ℕ) (os : List Entry) → cycles s os ≤ length os
+pub cycles_le : (s : ℕ) (os : List Entry) → cycles s os ≤ length os
 unfolding cycles
-cycles-le s [] = omega arith
-cycles-le s (o ∷ os) = split (starts s o) (λ t. rw t (omega (arith, cycles-le s os))) (λ t. rw t (omega (arith, cycles-le s os)))
+cycles_le s [] = omega arith
+cycles_le s (o ∷ os) = split (starts s o) (λ t. rw t (omega (arith, cycles_le s os))) (λ t. rw t (omega (arith, cycles_le s os)))
 
-pub each-starts : (s : ℕ) (os : List Entry) → cycles s os ≡ length os → All (λ o. starts s o ≡ true) os
+pub each_starts : (s : ℕ) (os : List Entry) → cycles s os ≡ length os → All (λ o. starts s o ≡ true) os
 unfolding cycles All
-each-starts s [] e = tt
-each-starts s (o ∷ os) e =
+each_starts s [] e = tt
+each_starts s (o ∷ os) e =
     split (starts s o)
-    (λ t. (t, each-starts s os (less (cycles s os) (length os) (rw t at e))))
-    (λ t. absurd (more (cycles s os) (length os) (cycles-le s os) (rw t at e)))
+    (λ t. (t, each_starts s os (less (cycles s os) (length os) (rw t at e))))
+    (λ t. absurd (more (cycles s os) (length os) (cycles_le s os) (rw t at e)))
   where
     less : (c n : ℕ) → 1 + c ≡ suc n → c ≡ n
     less c n h = omega arith

@@ -10,11 +10,11 @@ use lib.Seq.{get_or-drop, get_or-take, drop-drop, drop-append_seam, ext_get_or, 
 use Rattle.field.specs.Reads.{Stands, Reads}
 
 -- ---- words
-pub stands-getD : (text w : List ℕ) (at : ℕ) → Stands text at w → (i : ℕ) → i < length w → get_or text (at + i) 0 ≡ get_or w i 0
-stands-getD text w at s i h = sym (get_or-drop at text i 0) ∙ ap (λ (l : List ℕ). get_or l i 0) s.is ∙ get_or-append w s.rest 0 i h
+pub stands_get_d : (text w : List ℕ) (at : ℕ) → Stands text at w → (i : ℕ) → i < length w → get_or text (at + i) 0 ≡ get_or w i 0
+stands_get_d text w at s i h = sym (get_or-drop at text i 0) ∙ ap (λ (l : List ℕ). get_or l i 0) s.is ∙ get_or-append w s.rest 0 i h
 
-pub stands-length : (text w : List ℕ) (at : ℕ) → Stands text at w → 0 < length w → at + length w ≤ length text
-stands-length text w at s h = omega (arith, length-drop at text, length-append w s.rest, ap length s.is)
+pub stands_length : (text w : List ℕ) (at : ℕ) → Stands text at w → 0 < length w → at + length w ≤ length text
+stands_length text w at s h = omega (arith, length-drop at text, length-append w s.rest, ap length s.is)
 
 pub stands_of : (text w : List ℕ) (at : ℕ) → at + length w ≤ length text → ((i : ℕ) → i < length w → get_or text (at + i) 0 ≡ get_or w i 0) → Stands text at w
 stands_of text w at h e = record { rest = drop (length w) (drop at text); is = sym (take-append-drop (length w) (drop at text)) ∙ ap (λ (l : List ℕ). l ++ drop (length w) (drop at text)) same }
@@ -28,14 +28,14 @@ stands_of text w at h e = record { rest = drop (length w) (drop at text); is = s
         let q : i < length w = omega (arith, length-take-le (length w) (drop at text) fits) in
         get_or-take (length w) (drop at text) i 0 q ∙ get_or-drop at text i 0 ∙ e i q)
 
-pub stands-left : (text u v : List ℕ) (at : ℕ) → Stands text at (u ++ v) → Stands text at u
-stands-left text u v at s = record { rest = v ++ s.rest; is = s.is ∙ append_assoc u v s.rest }
+pub stands_left : (text u v : List ℕ) (at : ℕ) → Stands text at (u ++ v) → Stands text at u
+stands_left text u v at s = record { rest = v ++ s.rest; is = s.is ∙ append_assoc u v s.rest }
 
-pub stands-right : (text u v : List ℕ) (at : ℕ) → Stands text at (u ++ v) → Stands text (at + length u) v
-stands-right text u v at s = record { rest = s.rest; is = sym (drop-drop (length u) at text) ∙ ap (λ (l : List ℕ). drop (length u) l) (s.is ∙ append_assoc u v s.rest) ∙ drop-append_seam u (v ++ s.rest) }
+pub stands_right : (text u v : List ℕ) (at : ℕ) → Stands text at (u ++ v) → Stands text (at + length u) v
+stands_right text u v at s = record { rest = s.rest; is = sym (drop-drop (length u) at text) ∙ ap (λ (l : List ℕ). drop (length u) l) (s.is ∙ append_assoc u v s.rest) ∙ drop-append_seam u (v ++ s.rest) }
 
-pub stands-join : (text u v : List ℕ) (at : ℕ) → Stands text at u → Stands text (at + length u) v → Stands text at (u ++ v)
-stands-join text u v at s t = record { rest = t.rest; is = s.is ∙ ap (λ (l : List ℕ). u ++ l) rest ∙ sym (append_assoc u v t.rest) }
+pub stands_join : (text u v : List ℕ) (at : ℕ) → Stands text at u → Stands text (at + length u) v → Stands text at (u ++ v)
+stands_join text u v at s t = record { rest = t.rest; is = s.is ∙ ap (λ (l : List ℕ). u ++ l) rest ∙ sym (append_assoc u v t.rest) }
   where
     rest : s.rest ≡ v ++ t.rest
     rest = sym (drop-append_seam u s.rest) ∙ ap (λ (l : List ℕ). drop (length u) l) (sym s.is) ∙ drop-drop (length u) at text ∙ t.is
@@ -64,27 +64,27 @@ pub record Got {A : Type 0} (spell : A → List ℕ) (Ok : A → Type 0) (text :
   pub only : (y : A) → Ok y → Stands text at (spell y) → x ≡ y
 
 -- what is known is the promise
-pub got-is : {A R : Type 0} {spell : A → List ℕ} {Ok : A → Type 0} {value : A → ℕ → R} {bad : R} {text : List ℕ} {at : ℕ} {x : A} {p : ℕ} → Got spell Ok text at x p → Reads spell Ok value bad text at (value x p)
-got-is {x} {p} g = one x p g.ok g.stands g.next g.only
+pub got_is : {A R : Type 0} {spell : A → List ℕ} {Ok : A → Type 0} {value : A → ℕ → R} {bad : R} {text : List ℕ} {at : ℕ} {x : A} {p : ℕ} → Got spell Ok text at x p → Reads spell Ok value bad text at (value x p)
+got_is {x} {p} g = one x p g.ok g.stands g.next g.only
 
 -- an answer that is no value: nothing is spelled here, and the answer is the promised refusal
 module _ {A R : Type 0} {spell : A → List ℕ} {Ok : A → Type 0} {value : A → ℕ → R} {bad other : R} {text : List ℕ} {at : ℕ} (t : Tells value other) {r : R} (d : Reads spell Ok value bad text at r) (e : r ≡ other) where
-  pub got-none : (y : A) → Ok y → Stands text at (spell y) → ⊥
-  got-none y o s = t.apart y _ (sym e ∙ d.found y o s)
+  pub got_none : (y : A) → Ok y → Stands text at (spell y) → ⊥
+  got_none y o s = t.apart y _ (sym e ∙ d.found y o s)
 
-  pub got-bad : r ≡ bad
-  got-bad = ⊎_elim (λ z. z) (λ z. absurd (t.apart z.0 _ (sym e ∙ z.3))) d.only
+  pub got_bad : r ≡ bad
+  got_bad = ⊎_elim (λ z. z) (λ z. absurd (t.apart z.0 _ (sym e ∙ z.3))) d.only
 
 -- the answer, and the promised refusal, in another form
-pub as-told : {A R : Type 0} {spell : A → List ℕ} {Ok : A → Type 0} {value : A → ℕ → R} {bad : R} {text : List ℕ} {at : ℕ} {r s : R} → r ≡ s → Reads spell Ok value bad text at s → Reads spell Ok value bad text at r
-as-told {spell} {Ok} {value} {bad} {text} {at} e d = subst (λ z. Reads spell Ok value bad text at z) (sym e) d
+pub as_told : {A R : Type 0} {spell : A → List ℕ} {Ok : A → Type 0} {value : A → ℕ → R} {bad : R} {text : List ℕ} {at : ℕ} {r s : R} → r ≡ s → Reads spell Ok value bad text at s → Reads spell Ok value bad text at r
+as_told {spell} {Ok} {value} {bad} {text} {at} e d = subst (λ z. Reads spell Ok value bad text at z) (sym e) d
 
-pub as-bad : {A R : Type 0} {spell : A → List ℕ} {Ok : A → Type 0} {value : A → ℕ → R} {bad other : R} {text : List ℕ} {at : ℕ} {r : R} → other ≡ bad → Reads spell Ok value other text at r → Reads spell Ok value bad text at r
-as-bad {spell} {Ok} {value} {text} {at} {r} e d = subst (λ z. Reads spell Ok value z text at r) e d
+pub as_bad : {A R : Type 0} {spell : A → List ℕ} {Ok : A → Type 0} {value : A → ℕ → R} {bad other : R} {text : List ℕ} {at : ℕ} {r : R} → other ≡ bad → Reads spell Ok value other text at r → Reads spell Ok value bad text at r
+as_bad {spell} {Ok} {value} {text} {at} {r} e d = subst (λ z. Reads spell Ok value z text at r) e d
 
 module _ {A R : Type 0} {spell : A → List ℕ} {Ok : A → Type 0} {value : A → ℕ → R} {bad : R} {text : List ℕ} {at : ℕ} (t : Tells value bad) where
-  pub got-one : {r : R} → Reads spell Ok value bad text at r → (x : A) (p : ℕ) → r ≡ value x p → Got spell Ok text at x p
-  got-one {r} d x p e = ⊎_elim (λ (z : r ≡ bad). absurd (t.apart x p (sym z ∙ e)))
+  pub got_one : {r : R} → Reads spell Ok value bad text at r → (x : A) (p : ℕ) → r ≡ value x p → Got spell Ok text at x p
+  got_one {r} d x p e = ⊎_elim (λ (z : r ≡ bad). absurd (t.apart x p (sym z ∙ e)))
       (λ z. let q = t.same _ _ _ _ (sym e ∙ z.3) in
       record {
         ok = subst Ok (sym q.0) z.1;
@@ -97,7 +97,7 @@ module _ {A R : Type 0} {spell : A → List ℕ} {Ok : A → Type 0} {value : A 
   -- the answer is determined
   pub determined : (r r' : R) → Reads spell Ok value bad text at r → Reads spell Ok value bad text at r' → r ≡ r'
   determined r r' d d' = ⊎_elim
-      (λ (z : r ≡ bad). ⊎_elim (λ (z' : r' ≡ bad). z ∙ sym z') (λ z'. absurd (got-none t d z z'.0 z'.1 z'.2)) d'.only)
+      (λ (z : r ≡ bad). ⊎_elim (λ (z' : r' ≡ bad). z ∙ sym z') (λ z'. absurd (got_none t d z z'.0 z'.1 z'.2)) d'.only)
       (λ z. z.3 ∙ sym (d'.found z.0 z.1 z.2))
       d.only
 
@@ -106,6 +106,6 @@ pub seq_end : {A R : Type 0} {Ok : A → Type 0} {value : A → ℕ → R} {bad 
 seq_end {text} {p} x o u = one x p o (record { rest = drop p text; is = refl }) (sym (add-zero p)) (λ y o' s. u y o')
 
 -- two values that stand in one place are one, where a function finds the value from its spelling
-pub by-inverse : {A : Type 0} (spell : A → List ℕ) (Ok : A → Type 0) (decode : List ℕ → A) → ((x : A) → Ok x → (rest : List ℕ) → decode (spell x ++ rest) ≡ x)
+pub by_inverse : {A : Type 0} (spell : A → List ℕ) (Ok : A → Type 0) (decode : List ℕ → A) → ((x : A) → Ok x → (rest : List ℕ) → decode (spell x ++ rest) ≡ x)
     → {text : List ℕ} {at : ℕ} (x : A) → Ok x → Stands text at (spell x) → (y : A) → Ok y → Stands text at (spell y) → x ≡ y
-by-inverse spell Ok decode law x o s y o' s' = sym (law x o s.rest) ∙ ap decode (sym s.is ∙ s'.is) ∙ law y o' s'.rest
+by_inverse spell Ok decode law x o s y o' s' = sym (law x o s.rest) ∙ ap decode (sym s.is ∙ s'.is) ∙ law y o' s'.rest

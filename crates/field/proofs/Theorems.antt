@@ -10,20 +10,20 @@ use Rattle.field.specs.declared.ending.FieldEnd.{FieldEnd}
 use Rattle.field.specs.declared.ending.ReadEnd.{ReadEnd}
 use Rattle.field.specs.Readers.{ReadsDecimal, ReadsHex, ReadsDigit, ReadsWord, ReadsEnd}
 use Rattle.field.proofs.Reading.{determined}
-use Rattle.field.proofs.Answers.{tells-decimal, tells-hex, tells-word, tells-digit, tells-end}
+use Rattle.field.proofs.Answers.{tells_decimal, tells_hex, tells_word, tells_digit, tells_end}
 
 module _ (n : ℕ) (text : List ℕ) (at : ℕ) where
-  pub decimal-determined : (r s : ReadDecimal) → ReadsDecimal n text at r → ReadsDecimal n text at s → r ≡ s
-  decimal-determined = determined tells-decimal
+  pub decimal_determined : (r s : ReadDecimal) → ReadsDecimal n text at r → ReadsDecimal n text at s → r ≡ s
+  decimal_determined = determined tells_decimal
 
-  pub hex-determined : (r s : ReadHex) → ReadsHex n text at r → ReadsHex n text at s → r ≡ s
-  hex-determined = determined tells-hex
+  pub hex_determined : (r s : ReadHex) → ReadsHex n text at r → ReadsHex n text at s → r ≡ s
+  hex_determined = determined tells_hex
 
-  pub word-determined : (w : List ℕ) (r s : ReadWord) → ReadsWord w n text at r → ReadsWord w n text at s → r ≡ s
-  word-determined w = determined tells-word
+  pub word_determined : (w : List ℕ) (r s : ReadWord) → ReadsWord w n text at r → ReadsWord w n text at s → r ≡ s
+  word_determined w = determined tells_word
 
-  pub digit-determined : (low high : ℕ) (r s : ReadDigit) → ReadsDigit low high n text at r → ReadsDigit low high n text at s → r ≡ s
-  digit-determined low high = determined tells-digit
+  pub digit_determined : (low high : ℕ) (r s : ReadDigit) → ReadsDigit low high n text at r → ReadsDigit low high n text at s → r ≡ s
+  digit_determined low high = determined tells_digit
 
-  pub end-determined : (e : FieldEnd) (r s : ReadEnd) → ReadsEnd e n text at r → ReadsEnd e n text at s → r ≡ s
-  end-determined e = determined tells-end
+  pub end_determined : (e : FieldEnd) (r s : ReadEnd) → ReadsEnd e n text at r → ReadsEnd e n text at s → r ≡ s
+  end_determined e = determined tells_end

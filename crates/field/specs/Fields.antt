@@ -1,17 +1,17 @@
 -- Believed: The fields of a line, and the first bad one (document 02, request 2/12; docs/DECISIONS.md, D67).
 use Rattle.std.specs.Prelude.{ℕ, suc, Bool, true, false, List, [], ◌∷◌, eqb, get_or}
 use Rattle.law.specs.Words.{pick}
-use Rattle.field.specs.Ends.{tabByte, lfByte}
+use Rattle.field.specs.Ends.{tab_byte, lf_byte}
 
 -- one byte more in front of the first field
-abbrev pub onFirst : ℕ → List (List ℕ) → List (List ℕ)
-onFirst b [] = (b ∷ []) ∷ []
-onFirst b (w ∷ ws) = (b ∷ w) ∷ ws
+abbrev pub on_first : ℕ → List (List ℕ) → List (List ℕ)
+on_first b [] = (b ∷ []) ∷ []
+on_first b (w ∷ ws) = (b ∷ w) ∷ ws
 
 -- what tabs part, up to the LF or the text's end: there is always a first field, which may be empty
 unfoldable pub fields_of : List ℕ → List (List ℕ)
 fields_of [] = [] ∷ []
-fields_of (b ∷ l) = pick (eqb b lfByte) ([] ∷ []) (pick (eqb b tabByte) ([] ∷ fields_of l) (onFirst b (fields_of l)))
+fields_of (b ∷ l) = pick (eqb b lf_byte) ([] ∷ []) (pick (eqb b tab_byte) ([] ∷ fields_of l) (on_first b (fields_of l)))
 
 abbrev pub first_of : List (List ℕ) → List ℕ
 first_of fs = get_or fs 0 []
@@ -22,10 +22,10 @@ Places = List (List ℕ → Bool)
 
 -- The number of the first field whose content its place does not allow, where n is the first one's number; a field that has no place is not
 -- allowed. Where all that are there are allowed it is one past the last: a field is missing, or the LF.
-unfoldable pub firstBad : Places → ℕ → List (List ℕ) → ℕ
-firstBad [] n fs = n
-firstBad (allowed ∷ places) n [] = n
-firstBad (allowed ∷ places) n (w ∷ ws) = pick (allowed w) (firstBad places (suc n) ws) n
+unfoldable pub first_bad : Places → ℕ → List (List ℕ) → ℕ
+first_bad [] n fs = n
+first_bad (allowed ∷ places) n [] = n
+first_bad (allowed ∷ places) n (w ∷ ws) = pick (allowed w) (first_bad places (suc n) ws) n
 
 -- ---- what a place may allow
 unfoldable pub same : List ℕ → List ℕ → Bool

@@ -8,13 +8,13 @@ use Rattle.field.specs.Room.{room}
 abbrev pub held : Spelling → List ℕ
 held s = take s.len s.bytes
 
-abbrev pub noBytes : Spelling
-noBytes = record { bytes = replicate room 0; len = 0 }
+abbrev pub no_bytes : Spelling
+no_bytes = record { bytes = replicate room 0; len = 0 }
 
 -- one byte more, if there is room
-abbrev pub putByte : Spelling → ℕ → Spelling
-putByte s b = pick (leb room s.len) s (record { bytes = set s.bytes s.len b; len = s.len + 1 })
+abbrev pub put_byte : Spelling → ℕ → Spelling
+put_byte s b = pick (leb room s.len) s (record { bytes = set s.bytes s.len b; len = s.len + 1 })
 
 unfoldable pub put_all : Spelling → List ℕ → Spelling
 put_all s [] = s
-put_all s (b ∷ w) = put_all (putByte s b) w
+put_all s (b ∷ w) = put_all (put_byte s b) w

@@ -1,7 +1,7 @@
 // A decimal from 0 to 4,294,967,295 with no leading zero. One may begin another, so it is read by the field's whole content.
 ghost use Rattle.std.specs.Prelude.{◌≡◌, ◌≤◌, drop};
 ghost use Rattle.field.specs.Decimal.{largest};
-ghost use Rattle.field.specs.Readers.{digitOn, pushOf, decimalFault, stoppedAt, ReadsDecimal};
+ghost use Rattle.field.specs.Readers.{digit_on, push_of, decimal_fault, stopped_at, ReadsDecimal};
 
 use crate::Cursor;
 
@@ -14,7 +14,7 @@ pub enum ReadDecimal {
 
 // The number that a refusal tells.
 pub fn decimal_fault(r: ReadDecimal) -> u32
-    ensures { result ≡ decimalFault r }
+    ensures { result ≡ decimal_fault r }
 {
     match r {
         ReadDecimal::Value(_, _) => 0,
@@ -31,7 +31,7 @@ pub enum Pushed {
 // The number with one more digit, if the byte is a digit and the number stays in range.
 fn add_digit(value: u64, byte: u8) -> Pushed
     requires { value ≤ largest }
-    ensures { result ≡ digitOn value byte }
+    ensures { result ≡ digit_on value byte }
 {
     if byte < 48 {
         return Pushed::Bad;
@@ -49,7 +49,7 @@ fn add_digit(value: u64, byte: u8) -> Pushed
 // The same, where a leading zero takes no further digit.
 fn push(value: u64, first: bool, byte: u8) -> Pushed
     requires { value ≤ largest }
-    ensures { result ≡ pushOf value first byte }
+    ensures { result ≡ push_of value first byte }
 {
     if first {
         return add_digit(0, byte);
@@ -63,7 +63,7 @@ fn push(value: u64, first: bool, byte: u8) -> Pushed
 // The answer where no digit can be read on: the digits so far are the content if there are some and it ends here.
 fn stopped(text: &[u8], at: usize, value: u64, first: bool, number: u8) -> ReadDecimal
     requires { value ≤ largest }
-    ensures { result ≡ stoppedAt number first value at (drop at text.now) }
+    ensures { result ≡ stopped_at number first value at (drop at text.now) }
 {
     if first {
         return ReadDecimal::Bad(number as u32);

@@ -1,6 +1,6 @@
 // One digit in a range.
 ghost use Rattle.std.specs.Prelude.{◌≡◌};
-ghost use Rattle.field.specs.Readers.{digitFault, ReadsDigit};
+ghost use Rattle.field.specs.Readers.{digit_fault, ReadsDigit};
 
 use crate::Cursor;
 
@@ -13,7 +13,7 @@ pub enum ReadDigit {
 
 // The number that a refusal tells.
 pub fn digit_fault(r: ReadDigit) -> u32
-    ensures { result ≡ digitFault r }
+    ensures { result ≡ digit_fault r }
 {
     match r {
         ReadDigit::Value(_, _) => 0,

@@ -1,6 +1,6 @@
 // Where a field ends, and the byte that ends it: a tab, or the line's LF.
 ghost use Rattle.std.specs.Prelude.{◌≡◌, drop};
-ghost use Rattle.field.specs.Readers.{endsHere, endByte, endFault, ReadsEnd};
+ghost use Rattle.field.specs.Readers.{ends_here, end_byte, end_fault, ReadsEnd};
 
 use crate::Cursor;
 
@@ -19,7 +19,7 @@ pub enum ReadEnd {
 
 // The number that a refusal tells.
 pub fn end_fault(r: ReadEnd) -> u32
-    ensures { result ≡ endFault r }
+    ensures { result ≡ end_fault r }
 {
     match r {
         ReadEnd::Here(_) => 0,
@@ -28,7 +28,7 @@ pub fn end_fault(r: ReadEnd) -> u32
 }
 
 fn end_byte(end: FieldEnd) -> u8
-    ensures { result ≡ endByte end }
+    ensures { result ≡ end_byte end }
 {
     match end {
         FieldEnd::Tab => b'\t',
@@ -38,7 +38,7 @@ fn end_byte(end: FieldEnd) -> u8
 
 // Whether a content ends at a place: with a tab, the LF or the text's end.
 pub(crate) fn ends_at(text: &[u8], at: usize) -> bool
-    ensures { result ≡ endsHere (drop at text.now) }
+    ensures { result ≡ ends_here (drop at text.now) }
 {
     if text.len() <= at {
         return true;

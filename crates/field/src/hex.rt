@@ -1,6 +1,6 @@
 // Two lower-case hex digits.
 ghost use Rattle.std.specs.Prelude.{◌≡◌, min};
-ghost use Rattle.field.specs.Readers.{digitValue, letterValue, nibbleOf, hexFault, ReadsHex};
+ghost use Rattle.field.specs.Readers.{digit_value, letter_value, nibble_of, hex_fault, ReadsHex};
 
 use crate::Cursor;
 
@@ -13,7 +13,7 @@ pub enum ReadHex {
 
 // The number that a refusal tells.
 pub fn hex_fault(r: ReadHex) -> u32
-    ensures { result ≡ hexFault r }
+    ensures { result ≡ hex_fault r }
 {
     match r {
         ReadHex::Value(_, _) => 0,
@@ -29,7 +29,7 @@ pub enum Nibble {
 
 // What the byte stands for as a digit 0 to 9; 16 if it is none.
 fn digit_value(byte: u8) -> u8
-    ensures { result ≡ digitValue byte }
+    ensures { result ≡ digit_value byte }
 {
     if byte < 48 {
         return 16;
@@ -42,7 +42,7 @@ fn digit_value(byte: u8) -> u8
 
 // What the byte stands for as a letter a to f; 16 if it is none.
 fn letter_value(byte: u8) -> u8
-    ensures { result ≡ letterValue byte }
+    ensures { result ≡ letter_value byte }
 {
     if byte < 97 {
         return 16;
@@ -63,7 +63,7 @@ fn lesser(x: u8, y: u8) -> u8
 // What one hex digit stands for. Both values are worked out and the lesser is taken, with no branch between digits and letters:
 // a processor would guess that branch wrong too often.
 fn nibble_of(byte: u8) -> Nibble
-    ensures { result ≡ nibbleOf byte }
+    ensures { result ≡ nibble_of byte }
 {
     let value = lesser(digit_value(byte), letter_value(byte));
     if value < 16 {

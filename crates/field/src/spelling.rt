@@ -1,8 +1,8 @@
 // A line that is put together, field after field, before it is written out. What does not fit into the room is left out; no line is that long.
 ghost use Rattle.std.specs.Prelude.{◌≡◌, ◌%◌};
 ghost use Rattle.field.specs.Decimal.{decimal};
-ghost use Rattle.field.specs.Hex.{hexDigit, hexField};
-ghost use Rattle.field.specs.Spelling.{noBytes, putByte, put_all};
+ghost use Rattle.field.specs.Hex.{hex_digit, hex_field};
+ghost use Rattle.field.specs.Spelling.{no_bytes, put_byte, put_all};
 
 pub const ROOM: usize = 32;
 
@@ -14,7 +14,7 @@ pub struct Spelling {
 }
 
 pub fn no_bytes() -> Spelling
-    ensures { result ≡ noBytes }
+    ensures { result ≡ no_bytes }
 {
     Spelling {
         bytes: [0; ROOM],
@@ -23,7 +23,7 @@ pub fn no_bytes() -> Spelling
 }
 
 fn put(s: Spelling, byte: u8) -> Spelling
-    ensures { result ≡ putByte s byte }
+    ensures { result ≡ put_byte s byte }
 {
     let at = s.len;
     if ROOM <= at {
@@ -65,7 +65,7 @@ pub fn put_decimal(s: Spelling, value: u32) -> Spelling
 
 // 0 to 9, then a to f; only the low four bits count.
 fn hex_digit(d: u8) -> u8
-    ensures { result ≡ hexDigit (d % 16) }
+    ensures { result ≡ hex_digit (d % 16) }
 {
     let low = d % 16;
     if low < 10 {
@@ -75,7 +75,7 @@ fn hex_digit(d: u8) -> u8
 }
 
 pub fn put_hex(s: Spelling, x: u8) -> Spelling
-    ensures { result ≡ put_all s (hexField x) }
+    ensures { result ≡ put_all s (hex_field x) }
 {
     let high = put(s, hex_digit(x / 16));
     put(high, hex_digit(x))

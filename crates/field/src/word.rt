@@ -1,6 +1,6 @@
 // A word that is written out.
 ghost use Rattle.std.specs.Prelude.{◌≡◌};
-ghost use Rattle.field.specs.Readers.{wordFault, ReadsWord};
+ghost use Rattle.field.specs.Readers.{word_fault, ReadsWord};
 
 use crate::Cursor;
 
@@ -13,7 +13,7 @@ pub enum ReadWord {
 
 // The number that a refusal tells.
 pub fn word_fault(r: ReadWord) -> u32
-    ensures { result ≡ wordFault r }
+    ensures { result ≡ word_fault r }
 {
     match r {
         ReadWord::Here(_) => 0,

@@ -5,7 +5,7 @@ use mathlib.Core.Path.{◌≡◌, sym, subst}
 use mathlib.Core.Bool.{Bool, true, false}
 use mathlib.Core.List.{List}
 use lib.ListN.{length}
-use Rattle.law.specs.Choice.{true-not-false}
+use Rattle.law.specs.Choice.{true_not_false}
 use Rattle.files.specs.declared.Chunk.{Chunk}
 use Rattle.files.specs.declared.File.{File}
 use Rattle.files.specs.declared.Taken.{Taken}
@@ -17,28 +17,28 @@ moved {room} p e = subst (λ (r : Chunk). Moves room r) e p
 same_bytes : {m n : ℕ} → Taken.Bytes m ≡ Taken.Bytes n → m ≡ n
 same_bytes e = cc
 
-not-bytes : {n : ℕ} → Taken.Unreadable ≡ Taken.Bytes n → ⊥
-not-bytes e = let z : ◌≡◌ {A = ℕ} 0 1 = cc in omega arith
+not_bytes : {n : ℕ} → Taken.Unreadable ≡ Taken.Bytes n → ⊥
+not_bytes e = let z : ◌≡◌ {A = ℕ} 0 1 = cc in omega arith
 
 same_read : {s t : Bool} {m n : ℕ} → File.Read s m ≡ File.Read t n → (s ≡ t) × (m ≡ n)
 same_read e = (cc, cc)
 
-not-read : {t : Bool} {n : ℕ} → File.Unreadable ≡ File.Read t n → ⊥
-not-read e = let z : ◌≡◌ {A = ℕ} 0 1 = cc in omega arith
+not_read : {t : Bool} {n : ℕ} → File.Unreadable ≡ File.Read t n → ⊥
+not_read e = let z : ◌≡◌ {A = ℕ} 0 1 = cc in omega arith
 
 -- ---- so many bytes, or none
 pub within : (new : List ℕ) (m : ℕ) → m ≤ length new → Within new (Taken.Bytes m)
 within new m h = record { within = λ n e. subst (λ (k : ℕ). k ≤ length new) (same_bytes e) h }
 
 pub without : (new : List ℕ) → Within new Taken.Unreadable
-without new = record { within = λ n e. absurd (not-bytes e) }
+without new = record { within = λ n e. absurd (not_bytes e) }
 
 -- ---- a file that is there, none, and one that can't be read
 pub loads : (new : List ℕ) (m : ℕ) → m ≤ length new → Loads new (File.Read true m)
-loads new m h = record { within = λ t n e. subst (λ (k : ℕ). k ≤ length new) (same_read e).1 h; absent = λ n e. absurd (true-not-false (same_read e).0) }
+loads new m h = record { within = λ t n e. subst (λ (k : ℕ). k ≤ length new) (same_read e).1 h; absent = λ n e. absurd (true_not_false (same_read e).0) }
 
-pub loads-none : (new : List ℕ) → Loads new (File.Read false 0)
-loads-none new = record { within = λ t n e. let k = (same_read e).1 in omega arith; absent = λ n e. sym (same_read e).1 }
+pub loads_none : (new : List ℕ) → Loads new (File.Read false 0)
+loads_none new = record { within = λ t n e. let k = (same_read e).1 in omega arith; absent = λ n e. sym (same_read e).1 }
 
-pub loads-not : (new : List ℕ) → Loads new File.Unreadable
-loads-not new = record { within = λ t n e. absurd (not-read e); absent = λ n e. absurd (not-read e) }
+pub loads_not : (new : List ℕ) → Loads new File.Unreadable
+loads_not new = record { within = λ t n e. absurd (not_read e); absent = λ n e. absurd (not_read e) }

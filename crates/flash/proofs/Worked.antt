@@ -11,7 +11,7 @@ use Rattle.record.specs.declared.LineEvent.TheVariants.{SupplyOn, SupplyOff, Loc
 use Rattle.record.specs.declared.Skeleton.{Skeleton}
 use Rattle.record.specs.declared.Skeleton.TheVariants.{Silent, Given, Fetch, Starts, Ends, NoCycle}
 use Rattle.flash.specs.Cycle.{blank}
-use Rattle.flash.specs.Side.{Side, sideStart, sideBus, sideSays, sideLine}
+use Rattle.flash.specs.Side.{Side, side_start, side_bus, side_says, side_line}
 use Rattle.flash.specs.declared.FlashFrame.{FlashFrame}
 use Rattle.flash.specs.declared.FlashFrame.TheVariants.{Idle, Void, Selected}
 use Rattle.flash.specs.declared.LockFact.TheVariants.{Absent}
@@ -28,14 +28,14 @@ pub data Played : Type 0 where
 
 abbrev pub after : Side → List Played → Side
 after s [] = s
-after s (bus e ∷ ps) = after (sideBus 1 s e) ps
-after s (line e ∷ ps) = after (sideLine s e) ps
+after s (bus e ∷ ps) = after (side_bus 1 s e) ps
+after s (line e ∷ ps) = after (side_line s e) ps
 
 -- the replies of channel F
 abbrev pub says : Side → List Played → List Skeleton
 says s [] = []
-says s (bus e ∷ ps) = sideSays 1 s e ∷ says (sideBus 1 s e) ps
-says s (line e ∷ ps) = says (sideLine s e) ps
+says s (bus e ∷ ps) = side_says 1 s e ∷ says (side_bus 1 s e) ps
+says s (line e ∷ ps) = says (side_line s e) ps
 
 -- the board's status, the records, their replies, and the chip after them
 pub record Case : Type 0 where
@@ -48,8 +48,8 @@ abbrev pub given : ℕ → List Played → List Skeleton → Flash → Case
 given status ps rs chip = record { status = status; records = ps; replies = rs; chip = chip }
 
 -- the case as the rules have it
-abbrev pub byRules : Case → Case
-byRules c = given c.status c.records (says (sideStart c.status) c.records) (after (sideStart c.status) c.records).chip
+abbrev pub by_rules : Case → Case
+by_rules c = given c.status c.records (says (side_start c.status) c.records) (after (side_start c.status) c.records).chip
 
 -- ---- the words of the cases
 abbrev pub bytes : List ℕ → List Played
@@ -153,5 +153,5 @@ abbrev pub cases : List Case
 cases = instructions ++ locking ++ supply
 
 -- each case is as the rules have it
-pub worked : map byRules cases ≡ cases
+pub worked : map by_rules cases ≡ cases
 worked = refl

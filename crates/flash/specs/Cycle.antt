@@ -1,8 +1,8 @@
 -- Believed: A cycle: what starts one at `des`, and what its end and a supply that goes off leave (document 01, 'Flash rules', 'Supply').
 use Rattle.std.specs.Prelude.{ℕ, ◌/◌, ◌%◌, Bool, true, false, List, replicate, leb, eqb}
 use Rattle.law.specs.Words.{pick}
-use Rattle.page.specs.Geometry.{flashPage}
-use Rattle.flash.specs.Code.{sectorOf, sectorLocked, wpen, enabled, keptBits, withEnable}
+use Rattle.page.specs.Geometry.{flash_page}
+use Rattle.flash.specs.Code.{sector_of, sector_locked, wpen, enabled, kept_bits, with_enable}
 use Rattle.flash.specs.declared.Op.{Op}
 use Rattle.flash.specs.declared.Op.TheVariants as op
 use Rattle.flash.specs.declared.LockFact.{LockFact}
@@ -15,77 +15,77 @@ use Rattle.flash.specs.declared.FlashStatus.TheVariants.{Lost, Known}
 use Rattle.flash.specs.declared.Effect.{Effect}
 use Rattle.flash.specs.declared.Effect.TheVariants.{Nothing, Status, Start}
 
-abbrev pub runningOf : FlashCycle → Bool
-runningOf None = false
-runningOf (Program n) = true
-runningOf (SectorErase n) = true
-runningOf ChipErase = true
-runningOf (WriteStatus bits) = true
+abbrev pub running_of : FlashCycle → Bool
+running_of None = false
+running_of (Program n) = true
+running_of (SectorErase n) = true
+running_of ChipErase = true
+running_of (WriteStatus bits) = true
 
 -- a page to which nothing was sent: ff changes nothing at `end` and at `off`
 abbrev pub blank : List ℕ
-blank = replicate flashPage 0xff
+blank = replicate flash_page 0xff
 
 -- where no frame has data, only a PROGRAM cycle keeps a page
-abbrev pub pageIn : FlashCycle → List ℕ → List ℕ
-pageIn None page = blank
-pageIn (Program n) page = page
-pageIn (SectorErase n) page = blank
-pageIn ChipErase page = blank
-pageIn (WriteStatus bits) page = blank
+abbrev pub page_in : FlashCycle → List ℕ → List ℕ
+page_in None page = blank
+page_in (Program n) page = page
+page_in (SectorErase n) page = blank
+page_in ChipErase page = blank
+page_in (WriteStatus bits) page = blank
 
 -- writing instructions act at exact length; all but WREN and WRDI need write enable, and start nothing where they are barred
-abbrev pub mayStart : Bool → ℕ → Bool → Bool
-mayStart whole status barred = pick whole (pick barred false (enabled status)) false
+abbrev pub may_start : Bool → ℕ → Bool → Bool
+may_start whole status barred = pick whole (pick barred false (enabled status)) false
 
 -- WRSR starts nothing if WPEN is 1 and the lock was on since `sel`; a frame without that fact can start none with WPEN 1
-abbrev pub lockBars : ℕ → LockFact → Bool
-lockBars status Absent = wpen status
-lockBars status Free = false
-lockBars status Locked = wpen status
+abbrev pub lock_bars : ℕ → LockFact → Bool
+lock_bars status Absent = wpen status
+lock_bars status Free = false
+lock_bars status Locked = wpen status
 
 -- what starts nothing leaves the status as it is
-abbrev pub startsIf : Bool → FlashCycle → Effect
-startsIf may cycle = pick may (Start cycle) Nothing
+abbrev pub starts_if : Bool → FlashCycle → Effect
+starts_if may cycle = pick may (Start cycle) Nothing
 
 -- WREN and WRDI act at exact length too
-abbrev pub setsIf : Bool → ℕ → Effect
-setsIf whole status = pick whole (Status status) Nothing
+abbrev pub sets_if : Bool → ℕ → Effect
+sets_if whole status = pick whole (Status status) Nothing
 
 -- lengths: WREN, WRDI, chip erase 1; WRSR 2; sector erase 4; PROGRAM 5 or more. All sectors are locked where the first is.
-abbrev pub knownEffect : Op → Sent → LockFact → ℕ → Effect
-knownEffect op.WriteEnable sent fact s = setsIf (eqb sent.count 1) (withEnable s)
-knownEffect op.WriteDisable sent fact s = setsIf (eqb sent.count 1) (keptBits s)
-knownEffect op.ReadStatus sent fact s = Nothing
-knownEffect op.WriteStatus sent fact s =
-    startsIf (mayStart (eqb sent.count 2) s (lockBars s fact)) (WriteStatus (keptBits (sent.place % 256)))
-knownEffect op.Read sent fact s = Nothing
-knownEffect op.Program sent fact s =
-    startsIf (mayStart (leb 5 sent.count) s (sectorLocked s (sectorOf sent.place))) (Program (sent.place / flashPage))
-knownEffect op.SectorErase sent fact s =
-    startsIf (mayStart (eqb sent.count 4) s (sectorLocked s (sectorOf sent.place))) (SectorErase (sectorOf sent.place))
-knownEffect op.ChipErase sent fact s = startsIf (mayStart (eqb sent.count 1) s (sectorLocked s 1)) ChipErase
-knownEffect op.Identify sent fact s = Nothing
+abbrev pub known_effect : Op → Sent → LockFact → ℕ → Effect
+known_effect op.WriteEnable sent fact s = sets_if (eqb sent.count 1) (with_enable s)
+known_effect op.WriteDisable sent fact s = sets_if (eqb sent.count 1) (kept_bits s)
+known_effect op.ReadStatus sent fact s = Nothing
+known_effect op.WriteStatus sent fact s =
+    starts_if (may_start (eqb sent.count 2) s (lock_bars s fact)) (WriteStatus (kept_bits (sent.place % 256)))
+known_effect op.Read sent fact s = Nothing
+known_effect op.Program sent fact s =
+    starts_if (may_start (leb 5 sent.count) s (sector_locked s (sector_of sent.place))) (Program (sent.place / flash_page))
+known_effect op.SectorErase sent fact s =
+    starts_if (may_start (eqb sent.count 4) s (sector_locked s (sector_of sent.place))) (SectorErase (sector_of sent.place))
+known_effect op.ChipErase sent fact s = starts_if (may_start (eqb sent.count 1) s (sector_locked s 1)) ChipErase
+known_effect op.Identify sent fact s = Nothing
 
 -- 'Supply': with a lost status nothing starts a cycle
 abbrev pub effect_of : Op → Sent → LockFact → FlashStatus → Effect
 effect_of op sent fact Lost = Nothing
-effect_of op sent fact (Known s) = knownEffect op sent fact s
+effect_of op sent fact (Known s) = known_effect op sent fact s
 
 -- at `end` WRSR sets bits 7, 3, 2, and write enable goes off
-abbrev pub endStatus : FlashCycle → FlashStatus → FlashStatus
-endStatus cycle Lost = Lost
-endStatus None (Known s) = Known s
-endStatus (Program n) (Known s) = Known (keptBits s)
-endStatus (SectorErase n) (Known s) = Known (keptBits s)
-endStatus ChipErase (Known s) = Known (keptBits s)
-endStatus (WriteStatus bits) (Known s) = Known bits
+abbrev pub end_status : FlashCycle → FlashStatus → FlashStatus
+end_status cycle Lost = Lost
+end_status None (Known s) = Known s
+end_status (Program n) (Known s) = Known (kept_bits s)
+end_status (SectorErase n) (Known s) = Known (kept_bits s)
+end_status ChipErase (Known s) = Known (kept_bits s)
+end_status (WriteStatus bits) (Known s) = Known bits
 
 -- 'Supply': in a WRSR cycle the status is lost; write enable is off; a lost status stays lost
-abbrev pub offStatus : FlashCycle → FlashStatus → FlashStatus
-offStatus cycle Lost = Lost
-offStatus None (Known s) = Known (keptBits s)
-offStatus (Program n) (Known s) = Known (keptBits s)
-offStatus (SectorErase n) (Known s) = Known (keptBits s)
-offStatus ChipErase (Known s) = Known (keptBits s)
-offStatus (WriteStatus bits) (Known s) = Lost
+abbrev pub off_status : FlashCycle → FlashStatus → FlashStatus
+off_status cycle Lost = Lost
+off_status None (Known s) = Known (kept_bits s)
+off_status (Program n) (Known s) = Known (kept_bits s)
+off_status (SectorErase n) (Known s) = Known (kept_bits s)
+off_status ChipErase (Known s) = Known (kept_bits s)
+off_status (WriteStatus bits) (Known s) = Lost

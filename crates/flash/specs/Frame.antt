@@ -1,11 +1,11 @@
 -- Believed: A frame, from `sel` to `des`: its bytes and the replies to them (document 01, 'Flash rules').
 use Rattle.std.specs.Prelude.{ℕ, ◌+◌, ◌-◌, ◌*◌, ◌/◌, ◌%◌, Bool, true, not, List, set, ltb, eqb}
 use Rattle.law.specs.Words.{pick}
-use Rattle.page.specs.Geometry.{flashPage, flashSector, flashSize}
-use Rattle.page.specs.Rolling.{rolledIn, nextIn}
+use Rattle.page.specs.Geometry.{flash_page, flash_sector, flash_size}
+use Rattle.page.specs.Rolling.{rolled_in, next_in}
 use Rattle.record.specs.declared.Skeleton.{Skeleton}
 use Rattle.record.specs.declared.Skeleton.TheVariants.{Silent, Given, Fetch}
-use Rattle.flash.specs.Code.{decodeOf, sectorOf, wpen}
+use Rattle.flash.specs.Code.{decode_of, sector_of, wpen}
 use Rattle.flash.specs.declared.Op.{Op}
 use Rattle.flash.specs.declared.Op.TheVariants.{WriteEnable, WriteDisable, ReadStatus, WriteStatus, Read, Program, SectorErase, ChipErase, Identify}
 use Rattle.flash.specs.declared.Decoded.{Decoded}
@@ -19,12 +19,12 @@ use Rattle.flash.specs.declared.FlashStatus.{FlashStatus}
 use Rattle.flash.specs.declared.FlashStatus.TheVariants.{Lost, Known}
 
 -- the lock since `sel` is a fact only in a frame whose `sel` found WPEN 1 and no cycle; it starts as the lock's level
-abbrev pub factBy : FlashStatus → Bool → LockFact
-factBy Lost lock = Absent
-factBy (Known s) lock = pick (wpen s) (pick lock Locked Free) Absent
+abbrev pub fact_by : FlashStatus → Bool → LockFact
+fact_by Lost lock = Absent
+fact_by (Known s) lock = pick (wpen s) (pick lock Locked Free) Absent
 
-abbrev pub factAt : Bool → FlashStatus → Bool → LockFact
-factAt busy status lock = pick busy Absent (factBy status lock)
+abbrev pub fact_at : Bool → FlashStatus → Bool → LockFact
+fact_at busy status lock = pick busy Absent (fact_by status lock)
 
 -- in a cycle only RDSR is served, judged when the first byte is complete
 abbrev pub served : Bool → Op → Bool
@@ -39,103 +39,103 @@ served busy ChipErase = not busy
 served busy Identify = not busy
 
 -- the op-code counts as the first byte
-abbrev pub opCodeSent : Sent
-opCodeSent = record { count = 1; place = 0 }
+abbrev pub op_code_sent : Sent
+op_code_sent = record { count = 1; place = 0 }
 
 -- any other op-code makes the frame void, and a frame that is refused in a cycle is void
-abbrev pub openedBy : Bool → Decoded → LockFact → FlashFrame
-openedBy busy (Is op) fact = pick (served busy op) (Command op opCodeSent fact) Void
-openedBy busy Unknown fact = Void
+abbrev pub opened_by : Bool → Decoded → LockFact → FlashFrame
+opened_by busy (Is op) fact = pick (served busy op) (Command op op_code_sent fact) Void
+opened_by busy Unknown fact = Void
 
-abbrev pub openedAs : Bool → ℕ → LockFact → FlashFrame
-openedAs busy si fact = openedBy busy (decodeOf si) fact
+abbrev pub opened_as : Bool → ℕ → LockFact → FlashFrame
+opened_as busy si fact = opened_by busy (decode_of si) fact
 
 -- READ counts on, 1ffff to 00000
-abbrev pub countedOn : ℕ → ℕ
-countedOn place = rolledIn (flashSize - 1) place
+abbrev pub counted_on : ℕ → ℕ
+counted_on place = rolled_in (flash_size - 1) place
 
 -- PROGRAM: the low eight address bits roll over inside the page
-abbrev pub rolledOn : ℕ → ℕ
-rolledOn place = nextIn flashPage place
+abbrev pub rolled_on : ℕ → ℕ
+rolled_on place = next_in flash_page place
 
-abbrev pub movedOn : Op → ℕ → ℕ
-movedOn WriteEnable place = place
-movedOn WriteDisable place = place
-movedOn ReadStatus place = place
-movedOn WriteStatus place = place
-movedOn Read place = countedOn place
-movedOn Program place = rolledOn place
-movedOn SectorErase place = place
-movedOn ChipErase place = place
-movedOn Identify place = place
+abbrev pub moved_on : Op → ℕ → ℕ
+moved_on WriteEnable place = place
+moved_on WriteDisable place = place
+moved_on ReadStatus place = place
+moved_on WriteStatus place = place
+moved_on Read place = counted_on place
+moved_on Program place = rolled_on place
+moved_on SectorErase place = place
+moved_on ChipErase place = place
+moved_on Identify place = place
 
 -- three address bytes, high first; A23 to A17 are ignored (WRSR's one byte comes in as the first of them; a byte has 256 values, and the first remainder only keeps the product in the code's range)
-abbrev pub withByte : ℕ → ℕ → ℕ
-withByte place si = (place % (flashSize / 256) * 256 + si) % flashSize
+abbrev pub with_byte : ℕ → ℕ → ℕ
+with_byte place si = (place % (flash_size / 256) * 256 + si) % flash_size
 
 -- one byte more; from the fifth on only the place moves
-abbrev pub nextSent : Op → Sent → ℕ → Sent
-nextSent op sent si =
+abbrev pub next_sent : Op → Sent → ℕ → Sent
+next_sent op sent si =
     pick (ltb sent.count 4)
-    (record { count = sent.count + 1; place = withByte sent.place si })
-    (record { count = 5; place = movedOn op sent.place })
+    (record { count = sent.count + 1; place = with_byte sent.place si })
+    (record { count = 5; place = moved_on op sent.place })
 
 -- READ delivers the byte at its place; outside the watched sector the reply is silent
-abbrev pub fetchOf : Sent → ℕ → Skeleton
-fetchOf sent watched =
+abbrev pub fetch_of : Sent → ℕ → Skeleton
+fetch_of sent watched =
     pick (ltb sent.count 4) Silent
-    (pick (eqb (sectorOf sent.place) watched) (Fetch (sent.place % flashSector)) Silent)
+    (pick (eqb (sector_of sent.place) watched) (Fetch (sent.place % flash_sector)) Silent)
 
 -- RDID replies 1f, 60, then silence
-abbrev pub identityOf : ℕ → Skeleton
-identityOf count = pick (eqb count 1) (Given 0x1f) (pick (eqb count 2) (Given 0x60) Silent)
+abbrev pub identity_of : ℕ → Skeleton
+identity_of count = pick (eqb count 1) (Given 0x1f) (pick (eqb count 2) (Given 0x60) Silent)
 
 -- RDSR: the status, in a cycle ff, each byte worked out afresh; a lost status is silent
-abbrev pub statusReply : Bool → FlashStatus → Skeleton
-statusReply busy Lost = Silent
-statusReply busy (Known s) = Given (pick busy 0xff s)
+abbrev pub status_reply : Bool → FlashStatus → Skeleton
+status_reply busy Lost = Silent
+status_reply busy (Known s) = Given (pick busy 0xff s)
 
-abbrev pub replyTo : Op → Sent → Bool → FlashStatus → ℕ → Skeleton
-replyTo WriteEnable sent busy status watched = Silent
-replyTo WriteDisable sent busy status watched = Silent
-replyTo ReadStatus sent busy status watched = statusReply busy status
-replyTo WriteStatus sent busy status watched = Silent
-replyTo Read sent busy status watched = fetchOf sent watched
-replyTo Program sent busy status watched = Silent
-replyTo SectorErase sent busy status watched = Silent
-replyTo ChipErase sent busy status watched = Silent
-replyTo Identify sent busy status watched = identityOf sent.count
+abbrev pub reply_to : Op → Sent → Bool → FlashStatus → ℕ → Skeleton
+reply_to WriteEnable sent busy status watched = Silent
+reply_to WriteDisable sent busy status watched = Silent
+reply_to ReadStatus sent busy status watched = status_reply busy status
+reply_to WriteStatus sent busy status watched = Silent
+reply_to Read sent busy status watched = fetch_of sent watched
+reply_to Program sent busy status watched = Silent
+reply_to SectorErase sent busy status watched = Silent
+reply_to ChipErase sent busy status watched = Silent
+reply_to Identify sent busy status watched = identity_of sent.count
 
 -- PROGRAM: a later byte for a place replaces the earlier
-abbrev pub putByte : Sent → ℕ → List ℕ → List ℕ
-putByte sent si page = pick (ltb sent.count 4) page (set page (sent.place % flashPage) si)
+abbrev pub put_byte : Sent → ℕ → List ℕ → List ℕ
+put_byte sent si page = pick (ltb sent.count 4) page (set page (sent.place % flash_page) si)
 
-abbrev pub pageAfter : Op → Sent → ℕ → List ℕ → List ℕ
-pageAfter WriteEnable sent si page = page
-pageAfter WriteDisable sent si page = page
-pageAfter ReadStatus sent si page = page
-pageAfter WriteStatus sent si page = page
-pageAfter Read sent si page = page
-pageAfter Program sent si page = putByte sent si page
-pageAfter SectorErase sent si page = page
-pageAfter ChipErase sent si page = page
-pageAfter Identify sent si page = page
+abbrev pub page_after : Op → Sent → ℕ → List ℕ → List ℕ
+page_after WriteEnable sent si page = page
+page_after WriteDisable sent si page = page
+page_after ReadStatus sent si page = page
+page_after WriteStatus sent si page = page
+page_after Read sent si page = page
+page_after Program sent si page = put_byte sent si page
+page_after SectorErase sent si page = page
+page_after ChipErase sent si page = page
+page_after Identify sent si page = page
 
 -- 'Supply': an open frame void
-abbrev pub voidedBy : FlashFrame → FlashFrame
-voidedBy Idle = Idle
-voidedBy Void = Void
-voidedBy (Selected fact) = Void
-voidedBy (Command op sent fact) = Void
+abbrev pub voided_by : FlashFrame → FlashFrame
+voided_by Idle = Idle
+voided_by Void = Void
+voided_by (Selected fact) = Void
+voided_by (Command op sent fact) = Void
 
 -- the lock on at any time since `sel`: once set, the fact stays
-abbrev pub lockedFact : LockFact → LockFact
-lockedFact Absent = Absent
-lockedFact Free = Locked
-lockedFact Locked = Locked
+abbrev pub locked_fact : LockFact → LockFact
+locked_fact Absent = Absent
+locked_fact Free = Locked
+locked_fact Locked = Locked
 
-abbrev pub lockedFrame : FlashFrame → FlashFrame
-lockedFrame Idle = Idle
-lockedFrame Void = Void
-lockedFrame (Selected fact) = Selected (lockedFact fact)
-lockedFrame (Command op sent fact) = Command op sent (lockedFact fact)
+abbrev pub locked_frame : FlashFrame → FlashFrame
+locked_frame Idle = Idle
+locked_frame Void = Void
+locked_frame (Selected fact) = Selected (locked_fact fact)
+locked_frame (Command op sent fact) = Command op sent (locked_fact fact)

@@ -1,7 +1,7 @@
 -- What holds of every state of the flash's side that is reached (proofs/Bounds shows that it does).
 use Rattle.std.specs.Prelude.{ℕ, ◌/◌, ◌%◌, ◌<◌, ◌≤◌, Bool, true, false, ◌≡◌, List, length}
 use Rattle.law.specs.Words.{pick}
-use Rattle.page.specs.Geometry.{flashPage, flashSectors, flashSize}
+use Rattle.page.specs.Geometry.{flash_page, flash_sectors, flash_size}
 use Rattle.record.specs.Status.{StatusOk}
 use Rattle.flash.specs.Code.{wpen}
 use Rattle.flash.specs.Cycle.{blank}
@@ -22,7 +22,7 @@ use Rattle.flash.specs.declared.FlashStatus.TheVariants.{Lost, Known}
 pub record SentOk (s : Sent) : Type 0 where
   pub some : 1 ≤ s.count
   pub few : s.count ≤ 5
-  pub inside : s.place < flashSize
+  pub inside : s.place < flash_size
 
 abbrev pub FrameOk : FlashFrame → Type 0
 FrameOk Idle = Unit {0}
@@ -43,8 +43,8 @@ FlashStatusOk (Known s) = StatusBits s
 -- a PROGRAM is for one of 512 pages, an erase for one of four sectors; a WRSR sets bits 7, 3, 2 alone
 abbrev pub CycleOk : FlashCycle → Type 0
 CycleOk cycle.None = Unit {0}
-CycleOk (cycle.Program n) = n < flashSize / flashPage
-CycleOk (cycle.SectorErase n) = (1 ≤ n) × (n ≤ flashSectors)
+CycleOk (cycle.Program n) = n < flash_size / flash_page
+CycleOk (cycle.SectorErase n) = (1 ≤ n) × (n ≤ flash_sectors)
 CycleOk cycle.ChipErase = Unit {0}
 CycleOk (cycle.WriteStatus bits) = StatusOk bits
 
@@ -79,29 +79,29 @@ InCycle cycle.ChipErase P = P
 InCycle (cycle.WriteStatus bits) P = P
 
 -- the page is a PROGRAM frame's or a PROGRAM cycle's, else blank
-abbrev pub isProgram : Op → Bool
-isProgram WriteEnable = false
-isProgram WriteDisable = false
-isProgram ReadStatus = false
-isProgram WriteStatus = false
-isProgram Read = false
-isProgram Program = true
-isProgram SectorErase = false
-isProgram ChipErase = false
-isProgram Identify = false
+abbrev pub is_program : Op → Bool
+is_program WriteEnable = false
+is_program WriteDisable = false
+is_program ReadStatus = false
+is_program WriteStatus = false
+is_program Read = false
+is_program Program = true
+is_program SectorErase = false
+is_program ChipErase = false
+is_program Identify = false
 
-abbrev pub sendsPage : FlashFrame → Bool
-sendsPage Idle = false
-sendsPage Void = false
-sendsPage (Selected fact) = false
-sendsPage (Command op sent fact) = isProgram op
+abbrev pub sends_page : FlashFrame → Bool
+sends_page Idle = false
+sends_page Void = false
+sends_page (Selected fact) = false
+sends_page (Command op sent fact) = is_program op
 
-abbrev pub writesPage : FlashCycle → Bool
-writesPage cycle.None = false
-writesPage (cycle.Program n) = true
-writesPage (cycle.SectorErase n) = false
-writesPage cycle.ChipErase = false
-writesPage (cycle.WriteStatus bits) = false
+abbrev pub writes_page : FlashCycle → Bool
+writes_page cycle.None = false
+writes_page (cycle.Program n) = true
+writes_page (cycle.SectorErase n) = false
+writes_page cycle.ChipErase = false
+writes_page (cycle.WriteStatus bits) = false
 
 abbrev pub BlankUnless : Bool → List ℕ → Type 0
 BlankUnless true page = Unit {0}
@@ -132,13 +132,13 @@ FactOk Locked status lock = HasWpen status
 
 pub record Fields (fr : FlashFrame) (c : FlashCycle) (st : FlashStatus) (page : List ℕ) (supply lock : Bool) : Type 0 where
   pub in_frame : FrameOk fr
-  pub in-cycle : CycleOk c
-  pub in-status : FlashStatusOk st
-  pub whole : length page ≡ flashPage
+  pub in_cycle_lem : CycleOk c
+  pub in_status : FlashStatusOk st
+  pub whole : length page ≡ flash_page
   pub waits : InCycle c (Waits fr)
   pub known : InCycle c (IsKnown st)
-  pub kept-page : BlankUnless (pick (writesPage c) true (sendsPage fr)) page
-  pub in-fact : FactOk (fact_of fr) st lock
+  pub kept_page : BlankUnless (pick (writes_page c) true (sends_page fr)) page
+  pub in_fact : FactOk (fact_of fr) st lock
   pub dark : supply ≡ false → (c ≡ cycle.None) × Shut fr
 
 abbrev pub Good : Side → Type 0

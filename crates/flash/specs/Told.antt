@@ -1,18 +1,18 @@
 -- What the records of channel F and their skeleton replies alone tell of the flash, whatever came on channel L between them; and the flash as a control.
 use Rattle.std.specs.Prelude.{ℕ, ◌/◌, ◌%◌, true, ◌≡◌, List}
 use Rattle.tied.specs.Control.{Cycle, idle, runs, Kind, starts, ends, fetches, plain, Control}
-use Rattle.record.specs.Told.{skeletonKind, Telling}
+use Rattle.record.specs.Told.{skeleton_kind, Telling}
 use Rattle.record.specs.declared.FlashEvent.{FlashEvent}
 use Rattle.record.specs.declared.FlashEvent.TheVariants as event
 use Rattle.record.specs.declared.LineEvent.{LineEvent}
 use Rattle.record.specs.declared.Skeleton.{Skeleton}
 use Rattle.record.specs.declared.Skeleton.TheVariants.{Silent}
-use Rattle.page.specs.Geometry.{flashPage}
-use Rattle.flash.specs.Code.{decodeOf, sectorOf, keptBits}
-use Rattle.flash.specs.Frame.{opCodeSent, nextSent, fetchOf, pageAfter}
+use Rattle.page.specs.Geometry.{flash_page}
+use Rattle.flash.specs.Code.{decode_of, sector_of, kept_bits}
+use Rattle.flash.specs.Frame.{op_code_sent, next_sent, fetch_of, page_after}
 use Rattle.flash.specs.Cycle.{blank}
-use Rattle.flash.specs.Side.{Side, sideBus, sideSays, sideLine}
-use Rattle.flash.specs.Good.{isProgram, Good}
+use Rattle.flash.specs.Side.{Side, side_bus, side_says, side_line}
+use Rattle.flash.specs.Good.{is_program, Good}
 use Rattle.flash.specs.declared.Op.{Op}
 use Rattle.flash.specs.declared.Op.TheVariants.{WriteEnable, WriteDisable, ReadStatus, WriteStatus, Read, Program, SectorErase, ChipErase, Identify}
 use Rattle.flash.specs.declared.Decoded.{Decoded}
@@ -31,22 +31,22 @@ use Rattle.flash.specs.declared.Flash.{Flash}
 pub data Running : Type 0 where
   programs : ℕ → List ℕ → Running
   erases : ℕ → Running
-  erasesAll : ℕ → Running
-  setsStatus : ℕ → Running
+  erases_all : ℕ → Running
+  sets_status : ℕ → Running
 
 abbrev pub bits_of : FlashStatus → ℕ
 bits_of Lost = 0
-bits_of (Known s) = keptBits s
+bits_of (Known s) = kept_bits s
 
-abbrev pub runsIn : FlashCycle → FlashStatus → List ℕ → Cycle Running
-runsIn cycle.None status page = idle
-runsIn (cycle.Program n) status page = runs (programs n page)
-runsIn (cycle.SectorErase n) status page = runs (erases n)
-runsIn cycle.ChipErase status page = runs (erasesAll (bits_of status))
-runsIn (cycle.WriteStatus bits) status page = runs (setsStatus bits)
+abbrev pub runs_in : FlashCycle → FlashStatus → List ℕ → Cycle Running
+runs_in cycle.None status page = idle
+runs_in (cycle.Program n) status page = runs (programs n page)
+runs_in (cycle.SectorErase n) status page = runs (erases n)
+runs_in cycle.ChipErase status page = runs (erases_all (bits_of status))
+runs_in (cycle.WriteStatus bits) status page = runs (sets_status bits)
 
-abbrev pub runsOf : Flash → Cycle Running
-runsOf f = runsIn f.cycle f.status f.page
+abbrev pub runs_of : Flash → Cycle Running
+runs_of f = runs_in f.cycle f.status f.page
 
 -- ---- what is told: the frame without the lock fact, the page that is sent, the status bits 7, 3, 2, and what they will be once the pending cycle has ended
 pub data ToldFrame : Type 0 where
@@ -59,101 +59,101 @@ pub record Told : Type 0 where
   pub bits : ℕ
   pub later : ℕ
 
-abbrev pub toldAs : Decoded → ToldFrame
-toldAs (Is op) = command op opCodeSent
-toldAs Unknown = closed
+abbrev pub told_as : Decoded → ToldFrame
+told_as (Is op) = command op op_code_sent
+told_as Unknown = closed
 
-abbrev pub toldByte : ToldFrame → ℕ → ToldFrame
-toldByte closed si = closed
-toldByte opened si = toldAs (decodeOf si)
-toldByte (command op sent) si = command op (nextSent op sent si)
+abbrev pub told_byte : ToldFrame → ℕ → ToldFrame
+told_byte closed si = closed
+told_byte opened si = told_as (decode_of si)
+told_byte (command op sent) si = command op (next_sent op sent si)
 
-abbrev pub toldFrame : ToldFrame → FlashEvent → ToldFrame
-toldFrame f event.Select = opened
-toldFrame f (event.Byte si so) = toldByte f si
-toldFrame f event.Cut = closed
-toldFrame f event.Deselect = closed
-toldFrame f event.End = f
+abbrev pub told_frame : ToldFrame → FlashEvent → ToldFrame
+told_frame f event.Select = opened
+told_frame f (event.Byte si so) = told_byte f si
+told_frame f event.Cut = closed
+told_frame f event.Deselect = closed
+told_frame f event.End = f
 
-abbrev pub toldPut : ToldFrame → ℕ → List ℕ → List ℕ
-toldPut closed si page = page
-toldPut opened si page = blank
-toldPut (command op sent) si page = pageAfter op sent si page
+abbrev pub told_put : ToldFrame → ℕ → List ℕ → List ℕ
+told_put closed si page = page
+told_put opened si page = blank
+told_put (command op sent) si page = page_after op sent si page
 
-abbrev pub toldPage : ToldFrame → FlashEvent → List ℕ → List ℕ
-toldPage f event.Select page = page
-toldPage f (event.Byte si so) page = toldPut f si page
-toldPage f event.Cut page = page
-toldPage f event.Deselect page = page
-toldPage f event.End page = page
+abbrev pub told_page : ToldFrame → FlashEvent → List ℕ → List ℕ
+told_page f event.Select page = page
+told_page f (event.Byte si so) page = told_put f si page
+told_page f event.Cut page = page
+told_page f event.Deselect page = page
+told_page f event.End page = page
 
 -- the status bits after the cycle that an instruction starts
-abbrev pub laterBy : Op → Sent → ℕ → ℕ
-laterBy WriteEnable sent bits = bits
-laterBy WriteDisable sent bits = bits
-laterBy ReadStatus sent bits = bits
-laterBy WriteStatus sent bits = keptBits (sent.place % 256)
-laterBy Read sent bits = bits
-laterBy Program sent bits = bits
-laterBy SectorErase sent bits = bits
-laterBy ChipErase sent bits = bits
-laterBy Identify sent bits = bits
+abbrev pub later_by : Op → Sent → ℕ → ℕ
+later_by WriteEnable sent bits = bits
+later_by WriteDisable sent bits = bits
+later_by ReadStatus sent bits = bits
+later_by WriteStatus sent bits = kept_bits (sent.place % 256)
+later_by Read sent bits = bits
+later_by Program sent bits = bits
+later_by SectorErase sent bits = bits
+later_by ChipErase sent bits = bits
+later_by Identify sent bits = bits
 
-abbrev pub laterOf : ToldFrame → ℕ → ℕ
-laterOf closed bits = bits
-laterOf opened bits = bits
-laterOf (command op sent) bits = laterBy op sent bits
+abbrev pub later_of : ToldFrame → ℕ → ℕ
+later_of closed bits = bits
+later_of opened bits = bits
+later_of (command op sent) bits = later_by op sent bits
 
-abbrev pub toldBits : Kind → Told → ℕ
-toldBits starts f = f.bits
-toldBits ends f = f.later
-toldBits fetches f = f.bits
-toldBits plain f = f.bits
+abbrev pub told_bits : Kind → Told → ℕ
+told_bits starts f = f.bits
+told_bits ends f = f.later
+told_bits fetches f = f.bits
+told_bits plain f = f.bits
 
-abbrev pub toldLater : Kind → Told → ℕ
-toldLater starts f = laterOf f.frame f.bits
-toldLater ends f = f.later
-toldLater fetches f = f.later
-toldLater plain f = f.later
+abbrev pub told_later : Kind → Told → ℕ
+told_later starts f = later_of f.frame f.bits
+told_later ends f = f.later
+told_later fetches f = f.later
+told_later plain f = f.later
 
 abbrev pub told : Told → FlashEvent → Skeleton → Told
 told f e k = record {
-  frame = toldFrame f.frame e;
-  page = toldPage f.frame e f.page;
-  bits = toldBits (skeletonKind k) f;
-  later = toldLater (skeletonKind k) f;
+  frame = told_frame f.frame e;
+  page = told_page f.frame e f.page;
+  bits = told_bits (skeleton_kind k) f;
+  later = told_later (skeleton_kind k) f;
 }
 
 -- the cycle that a frame starts (instructions that start none are given one that is never asked for)
-abbrev pub startedBy : Op → Sent → List ℕ → ℕ → Running
-startedBy WriteEnable sent page bits = setsStatus bits
-startedBy WriteDisable sent page bits = setsStatus bits
-startedBy ReadStatus sent page bits = setsStatus bits
-startedBy WriteStatus sent page bits = setsStatus (keptBits (sent.place % 256))
-startedBy Read sent page bits = setsStatus bits
-startedBy Program sent page bits = programs (sent.place / flashPage) page
-startedBy SectorErase sent page bits = erases (sectorOf sent.place)
-startedBy ChipErase sent page bits = erasesAll bits
-startedBy Identify sent page bits = setsStatus bits
+abbrev pub started_by : Op → Sent → List ℕ → ℕ → Running
+started_by WriteEnable sent page bits = sets_status bits
+started_by WriteDisable sent page bits = sets_status bits
+started_by ReadStatus sent page bits = sets_status bits
+started_by WriteStatus sent page bits = sets_status (kept_bits (sent.place % 256))
+started_by Read sent page bits = sets_status bits
+started_by Program sent page bits = programs (sent.place / flash_page) page
+started_by SectorErase sent page bits = erases (sector_of sent.place)
+started_by ChipErase sent page bits = erases_all bits
+started_by Identify sent page bits = sets_status bits
 
-abbrev pub startedIn : ToldFrame → List ℕ → ℕ → Running
-startedIn closed page bits = setsStatus bits
-startedIn opened page bits = setsStatus bits
-startedIn (command op sent) page bits = startedBy op sent page bits
+abbrev pub started_in : ToldFrame → List ℕ → ℕ → Running
+started_in closed page bits = sets_status bits
+started_in opened page bits = sets_status bits
+started_in (command op sent) page bits = started_by op sent page bits
 
-abbrev pub startsOf : Told → Running
-startsOf f = startedIn f.frame f.page f.bits
+abbrev pub starts_of : Told → Running
+starts_of f = started_in f.frame f.page f.bits
 
 -- ---- the chip's frame is idle, void, or the one that is told; its status is lost or has the bits that are told; it runs no cycle, or one that leaves what is told
 abbrev pub TracksFrame : FlashFrame → List ℕ → ToldFrame → List ℕ → Type 0
 TracksFrame Idle page f q = Unit {0}
 TracksFrame Void page f q = Unit {0}
 TracksFrame (Selected fact) page f q = f ≡ opened
-TracksFrame (Command op sent fact) page f q = (f ≡ command op sent) × (isProgram op ≡ true → page ≡ q)
+TracksFrame (Command op sent fact) page f q = (f ≡ command op sent) × (is_program op ≡ true → page ≡ q)
 
 abbrev pub TracksStatus : FlashStatus → ℕ → Type 0
 TracksStatus Lost bits = Unit {0}
-TracksStatus (Known s) bits = keptBits s ≡ bits
+TracksStatus (Known s) bits = kept_bits s ≡ bits
 
 abbrev pub TracksCycle : FlashCycle → ℕ → ℕ → Type 0
 TracksCycle cycle.None bits later = Unit {0}
@@ -164,45 +164,45 @@ TracksCycle (cycle.WriteStatus b) bits later = later ≡ b
 
 pub record Tracks (x : Flash) (f : Told) : Type 0 where
   pub in_frame : TracksFrame x.frame x.page f.frame f.page
-  pub in-status : TracksStatus x.status f.bits
-  pub in-cycle : TracksCycle x.cycle f.bits f.later
+  pub in_status : TracksStatus x.status f.bits
+  pub in_cycle_lem : TracksCycle x.cycle f.bits f.later
 
 -- ---- a byte that is about to be fetched is told by its place
-abbrev pub hintBy : ℕ → Op → Sent → Skeleton
-hintBy watched WriteEnable sent = Silent
-hintBy watched WriteDisable sent = Silent
-hintBy watched ReadStatus sent = Silent
-hintBy watched WriteStatus sent = Silent
-hintBy watched Read sent = fetchOf sent watched
-hintBy watched Program sent = Silent
-hintBy watched SectorErase sent = Silent
-hintBy watched ChipErase sent = Silent
-hintBy watched Identify sent = Silent
+abbrev pub hint_by : ℕ → Op → Sent → Skeleton
+hint_by watched WriteEnable sent = Silent
+hint_by watched WriteDisable sent = Silent
+hint_by watched ReadStatus sent = Silent
+hint_by watched WriteStatus sent = Silent
+hint_by watched Read sent = fetch_of sent watched
+hint_by watched Program sent = Silent
+hint_by watched SectorErase sent = Silent
+hint_by watched ChipErase sent = Silent
+hint_by watched Identify sent = Silent
 
-abbrev pub hintIn : ℕ → ToldFrame → Skeleton
-hintIn watched closed = Silent
-hintIn watched opened = Silent
-hintIn watched (command op sent) = hintBy watched op sent
+abbrev pub hint_in : ℕ → ToldFrame → Skeleton
+hint_in watched closed = Silent
+hint_in watched opened = Silent
+hint_in watched (command op sent) = hint_by watched op sent
 
-abbrev pub hintOf : ℕ → Told → FlashEvent → Skeleton
-hintOf watched f event.Select = Silent
-hintOf watched f (event.Byte si so) = hintIn watched f.frame
-hintOf watched f event.Cut = Silent
-hintOf watched f event.Deselect = Silent
-hintOf watched f event.End = Silent
+abbrev pub hint_of : ℕ → Told → FlashEvent → Skeleton
+hint_of watched f event.Select = Silent
+hint_of watched f (event.Byte si so) = hint_in watched f.frame
+hint_of watched f event.Cut = Silent
+hint_of watched f event.Deselect = Silent
+hint_of watched f event.End = Silent
 
 -- ---- the flash as a control
-abbrev pub flashControl : ℕ → Control Side FlashEvent LineEvent Skeleton Running Told
-flashControl watched = record {
-  bus = sideBus watched;
-  skel = sideSays watched;
-  line = sideLine;
-  running = λ s. runsOf s.chip;
-  kind = skeletonKind;
+abbrev pub flash_control : ℕ → Control Side FlashEvent LineEvent Skeleton Running Told
+flash_control watched = record {
+  bus = side_bus watched;
+  skel = side_says watched;
+  line = side_line;
+  running = λ s. runs_of s.chip;
+  kind = skeleton_kind;
   next = told;
-  cycleOf = λ f e. startsOf f;
+  cycle_of = λ f e. starts_of f;
   Tracks = λ s f. Tracks s.chip f;
   Good = Good;
-  hint = hintOf watched;
+  hint = hint_of watched;
   Telling = Telling;
 }

@@ -1,11 +1,11 @@
 // A cycle: what starts one at `des`, and what its end and a supply that goes off leave (document 01, 'Flash rules', 'Supply').
 ghost use Rattle.std.specs.Prelude.{◌≡◌};
-ghost use Rattle.flash.specs.Cycle.{runningOf, pageIn, mayStart, lockBars, startsIf, setsIf, knownEffect, effect_of, endStatus, offStatus};
+ghost use Rattle.flash.specs.Cycle.{running_of, page_in, may_start, lock_bars, starts_if, sets_if, known_effect, effect_of, end_status, off_status};
 
 use crate::{Effect, FlashCycle, FlashPage, FlashStatus, LockFact, Op, Sent, code};
 
 pub(crate) fn running(cycle: FlashCycle) -> bool
-    ensures { result ≡ runningOf cycle }
+    ensures { result ≡ running_of cycle }
 {
     match cycle {
         FlashCycle::None => false,
@@ -18,7 +18,7 @@ pub(crate) fn running(cycle: FlashCycle) -> bool
 
 // The page that is left where no frame has data.
 pub(crate) fn page_in(cycle: FlashCycle, page: FlashPage) -> FlashPage
-    ensures { result ≡ pageIn cycle page }
+    ensures { result ≡ page_in cycle page }
 {
     match cycle {
         FlashCycle::None => [0xff; page::FLASH_PAGE as usize],
@@ -31,7 +31,7 @@ pub(crate) fn page_in(cycle: FlashCycle, page: FlashPage) -> FlashPage
 
 // A cycle starts at exact length, with write enable, where nothing bars it.
 fn may_start(whole: bool, status: u8, barred: bool) -> bool
-    ensures { result ≡ mayStart whole status barred }
+    ensures { result ≡ may_start whole status barred }
 {
     if whole {
         if barred { false } else { status / 2 % 2 == 1 }
@@ -42,7 +42,7 @@ fn may_start(whole: bool, status: u8, barred: bool) -> bool
 
 // Whether the lock bars a WRSR.
 fn lock_bars(status: u8, fact: LockFact) -> bool
-    ensures { result ≡ lockBars status fact }
+    ensures { result ≡ lock_bars status fact }
 {
     match fact {
         LockFact::Absent => 128 <= status,
@@ -53,7 +53,7 @@ fn lock_bars(status: u8, fact: LockFact) -> bool
 
 // What starts nothing leaves the status as it is.
 fn start_if(may: bool, cycle: FlashCycle) -> Effect
-    ensures { result ≡ startsIf may cycle }
+    ensures { result ≡ starts_if may cycle }
 {
     if may {
         Effect::Start(cycle)
@@ -64,7 +64,7 @@ fn start_if(may: bool, cycle: FlashCycle) -> Effect
 
 // WREN and WRDI act at exact length.
 fn set_if(whole: bool, status: u8) -> Effect
-    ensures { result ≡ setsIf whole status }
+    ensures { result ≡ sets_if whole status }
 {
     if whole {
         Effect::Status(status)
@@ -75,7 +75,7 @@ fn set_if(whole: bool, status: u8) -> Effect
 
 // What an instruction does at `des`, with a known status.
 fn known_effect(op: Op, sent: Sent, fact: LockFact, s: u8) -> Effect
-    ensures { result ≡ knownEffect op sent fact s }
+    ensures { result ≡ known_effect op sent fact s }
 {
     let count = sent.count;
     let place = sent.place;
@@ -119,7 +119,7 @@ pub(crate) fn effect_of(op: Op, sent: Sent, fact: LockFact, status: FlashStatus)
 
 // The status after the end of a cycle.
 pub(crate) fn end_status(cycle: FlashCycle, status: FlashStatus) -> FlashStatus
-    ensures { result ≡ endStatus cycle status }
+    ensures { result ≡ end_status cycle status }
 {
     match status {
         FlashStatus::Lost => FlashStatus::Lost,
@@ -135,7 +135,7 @@ pub(crate) fn end_status(cycle: FlashCycle, status: FlashStatus) -> FlashStatus
 
 // The status after the supply went off.
 pub(crate) fn off_status(cycle: FlashCycle, status: FlashStatus) -> FlashStatus
-    ensures { result ≡ offStatus cycle status }
+    ensures { result ≡ off_status cycle status }
 {
     match status {
         FlashStatus::Lost => FlashStatus::Lost,

@@ -1,13 +1,13 @@
 // Whether two chips' parts are the same: frames, cycles and statuses by their numbers.
 ghost use Rattle.std.specs.Prelude.{◌≡◌};
 ghost use Rattle.law.specs.Deciding.{Decides};
-ghost use Rattle.flash.specs.Equal.{opNumber, factNumber, frameNumbers, cycleNumbers, statusNumbers};
+ghost use Rattle.flash.specs.Equal.{op_number, fact_number, frame_numbers, cycle_numbers, status_numbers};
 
 use crate::{FlashCycle, FlashFrame, FlashPage, FlashStatus, LockFact, Op};
 use law::Numbers;
 
 fn op_number(op: Op) -> u32
-    ensures { result ≡ opNumber op }
+    ensures { result ≡ op_number op }
 {
     match op {
         Op::WriteEnable => 0,
@@ -23,7 +23,7 @@ fn op_number(op: Op) -> u32
 }
 
 fn fact_number(fact: LockFact) -> u32
-    ensures { result ≡ factNumber fact }
+    ensures { result ≡ fact_number fact }
 {
     match fact {
         LockFact::Absent => 0,
@@ -33,7 +33,7 @@ fn fact_number(fact: LockFact) -> u32
 }
 
 fn frame_numbers(frame: FlashFrame) -> Numbers
-    ensures { result ≡ frameNumbers frame }
+    ensures { result ≡ frame_numbers frame }
 {
     match frame {
         FlashFrame::Idle => law::numbers_of(0, 0, 0, 0, 0),
@@ -50,7 +50,7 @@ fn frame_numbers(frame: FlashFrame) -> Numbers
 }
 
 fn cycle_numbers(cycle: FlashCycle) -> Numbers
-    ensures { result ≡ cycleNumbers cycle }
+    ensures { result ≡ cycle_numbers cycle }
 {
     match cycle {
         FlashCycle::None => law::numbers_of(0, 0, 0, 0, 0),
@@ -62,7 +62,7 @@ fn cycle_numbers(cycle: FlashCycle) -> Numbers
 }
 
 fn status_numbers(status: FlashStatus) -> Numbers
-    ensures { result ≡ statusNumbers status }
+    ensures { result ≡ status_numbers status }
 {
     match status {
         FlashStatus::Lost => law::numbers_of(0, 0, 0, 0, 0),

@@ -1,13 +1,13 @@
 // A frame: from `sel` to `des`, its bytes and the replies to them (document 01, 'Flash rules').
 ghost use Rattle.std.specs.Prelude.{◌≡◌};
-ghost use Rattle.flash.specs.Frame.{factAt, served, openedAs, movedOn, nextSent, fetchOf, identityOf, statusReply, replyTo, putByte, pageAfter, voidedBy, lockedFact, lockedFrame};
+ghost use Rattle.flash.specs.Frame.{fact_at, served, opened_as, moved_on, next_sent, fetch_of, identity_of, status_reply, reply_to, put_byte, page_after, voided_by, locked_fact, locked_frame};
 
 use crate::{Decoded, FlashFrame, FlashPage, FlashStatus, LockFact, Op, Sent, code};
 use record::Skeleton;
 
 // The lock fact at `sel`: the lock's level, where WPEN is 1 and no cycle runs.
 pub(crate) fn fact_at(busy: bool, status: FlashStatus, lock: bool) -> LockFact
-    ensures { result ≡ factAt busy status lock }
+    ensures { result ≡ fact_at busy status lock }
 {
     if busy {
         return LockFact::Absent;
@@ -46,7 +46,7 @@ fn is_served(busy: bool, op: Op) -> bool
 
 // The frame after its first byte.
 pub(crate) fn opened(busy: bool, si: u8, fact: LockFact) -> FlashFrame
-    ensures { result ≡ openedAs busy si fact }
+    ensures { result ≡ opened_as busy si fact }
 {
     let code = code::decode(si);
     match code {
@@ -63,7 +63,7 @@ pub(crate) fn opened(busy: bool, si: u8, fact: LockFact) -> FlashFrame
 
 // The place after one: READ counts on, PROGRAM rolls over inside the page.
 fn moved_on(op: Op, place: u32) -> u32
-    ensures { result ≡ movedOn op place }
+    ensures { result ≡ moved_on op place }
 {
     match op {
         Op::WriteEnable => place,
@@ -81,7 +81,7 @@ fn moved_on(op: Op, place: u32) -> u32
 
 // One byte more: three of an address, high first, then data.
 pub(crate) fn next_sent(op: Op, sent: Sent, si: u8) -> Sent
-    ensures { result ≡ nextSent op sent si }
+    ensures { result ≡ next_sent op sent si }
 {
     let count = sent.count;
     let place = sent.place;
@@ -100,7 +100,7 @@ pub(crate) fn next_sent(op: Op, sent: Sent, si: u8) -> Sent
 
 // What READ delivers: a place of the watched sector, or nothing.
 fn fetch(sent: Sent, watched: u8) -> Skeleton
-    ensures { result ≡ fetchOf sent watched }
+    ensures { result ≡ fetch_of sent watched }
 {
     let place = sent.place;
     if sent.count < 4 {
@@ -115,7 +115,7 @@ fn fetch(sent: Sent, watched: u8) -> Skeleton
 
 // What RDID delivers.
 fn identity(count: u32) -> Skeleton
-    ensures { result ≡ identityOf count }
+    ensures { result ≡ identity_of count }
 {
     match count {
         1 => Skeleton::Given(0x1f),
@@ -126,7 +126,7 @@ fn identity(count: u32) -> Skeleton
 
 // What RDSR delivers.
 fn status_reply(busy: bool, status: FlashStatus) -> Skeleton
-    ensures { result ≡ statusReply busy status }
+    ensures { result ≡ status_reply busy status }
 {
     match status {
         FlashStatus::Lost => Skeleton::Silent,
@@ -136,7 +136,7 @@ fn status_reply(busy: bool, status: FlashStatus) -> Skeleton
 
 // The reply to a byte after the op-code.
 pub(crate) fn reply_to(op: Op, sent: Sent, busy: bool, status: FlashStatus, watched: u8) -> Skeleton
-    ensures { result ≡ replyTo op sent busy status watched }
+    ensures { result ≡ reply_to op sent busy status watched }
 {
     match op {
         Op::WriteEnable => Skeleton::Silent,
@@ -153,7 +153,7 @@ pub(crate) fn reply_to(op: Op, sent: Sent, busy: bool, status: FlashStatus, watc
 
 // A data byte of PROGRAM is put at its place in the page.
 fn put_byte(sent: Sent, si: u8, page: FlashPage) -> FlashPage
-    ensures { result ≡ putByte sent si page }
+    ensures { result ≡ put_byte sent si page }
 {
     let mut next = page;
     if sent.count < 4 {
@@ -166,7 +166,7 @@ fn put_byte(sent: Sent, si: u8, page: FlashPage) -> FlashPage
 
 // The page after a byte that follows the op-code.
 pub(crate) fn page_after(op: Op, sent: Sent, si: u8, page: FlashPage) -> FlashPage
-    ensures { result ≡ pageAfter op sent si page }
+    ensures { result ≡ page_after op sent si page }
 {
     match op {
         Op::WriteEnable => page,
@@ -183,7 +183,7 @@ pub(crate) fn page_after(op: Op, sent: Sent, si: u8, page: FlashPage) -> FlashPa
 
 // An open frame becomes void.
 pub(crate) fn voided(frame: FlashFrame) -> FlashFrame
-    ensures { result ≡ voidedBy frame }
+    ensures { result ≡ voided_by frame }
 {
     match frame {
         FlashFrame::Idle => FlashFrame::Idle,
@@ -195,7 +195,7 @@ pub(crate) fn voided(frame: FlashFrame) -> FlashFrame
 
 // Once on, the lock was on since `sel`: `free` does not undo it.
 fn locked_fact(fact: LockFact) -> LockFact
-    ensures { result ≡ lockedFact fact }
+    ensures { result ≡ locked_fact fact }
 {
     match fact {
         LockFact::Absent => LockFact::Absent,
@@ -206,7 +206,7 @@ fn locked_fact(fact: LockFact) -> LockFact
 
 // The frame once the lock came on in it.
 pub(crate) fn locked(frame: FlashFrame) -> FlashFrame
-    ensures { result ≡ lockedFrame frame }
+    ensures { result ≡ locked_frame frame }
 {
     match frame {
         FlashFrame::Idle => FlashFrame::Idle,

@@ -2,8 +2,8 @@
 // No byte of the image is ever asked for: a read says only which place it delivers.
 ghost use Rattle.std.specs.Prelude.{◌≡◌};
 ghost use Rattle.law.specs.Deciding.{Decides};
-ghost use Rattle.flash.specs.Code.{sectorLocked};
-ghost use Rattle.flash.specs.Step.{bare, silently, start_of, inFrame, selectOf, furtherOf, byte_of, closedBy, deselectOf, end_of, poweredOf, darkOf, step_of, supplyOffOf, lockOnOf, line_of, lostOf};
+ghost use Rattle.flash.specs.Code.{sector_locked};
+ghost use Rattle.flash.specs.Step.{bare, silently, start_of, in_frame, select_of, further_of, byte_of, closed_by, deselect_of, end_of, powered_of, dark_of, step_of, supply_off_of, lock_on_of, line_of, lost_of};
 
 use record::{FlashEvent, LineEvent, Lines, Skeleton};
 
@@ -100,7 +100,7 @@ pub(crate) enum Effect {
 
 // Whether a sector (1 to 4) is locked out by BP1 BP0 of a status byte.
 pub fn sector_locked(status: u8, sector: u8) -> bool
-    ensures { result ≡ sectorLocked status sector }
+    ensures { result ≡ sector_locked status sector }
 {
     let bp = status / 4 % 4;
     match bp {
@@ -173,7 +173,7 @@ impl Flash {
 
     // The same chip in another frame, one with no data.
     fn in_frame(self, frame: FlashFrame) -> Flash
-        ensures { result ≡ inFrame self frame }
+        ensures { result ≡ in_frame self frame }
     {
         let cycle = self.cycle;
         let status = self.status;
@@ -183,7 +183,7 @@ impl Flash {
 
     // `sel`.
     fn select(self, lock: bool) -> FlashStep
-        ensures { result ≡ selectOf self lock }
+        ensures { result ≡ select_of self lock }
     {
         let cycle = self.cycle;
         let status = self.status;
@@ -193,7 +193,7 @@ impl Flash {
 
     // A byte after the op-code.
     fn further(self, op: Op, sent: Sent, fact: LockFact, si: u8, watched: u8) -> FlashStep
-        ensures { result ≡ furtherOf self op sent fact si watched }
+        ensures { result ≡ further_of self op sent fact si watched }
     {
         let cycle = self.cycle;
         let status = self.status;
@@ -231,7 +231,7 @@ impl Flash {
 
     // What an effect does as the frame closes.
     fn closed(self, effect: Effect) -> FlashStep
-        ensures { result ≡ closedBy self effect }
+        ensures { result ≡ closed_by self effect }
     {
         let cycle = self.cycle;
         let status = self.status;
@@ -256,7 +256,7 @@ impl Flash {
 
     // `des`.
     fn deselect(self) -> FlashStep
-        ensures { result ≡ deselectOf self }
+        ensures { result ≡ deselect_of self }
     {
         let frame = self.frame;
         let status = self.status;
@@ -295,7 +295,7 @@ impl Flash {
 
     // A record with the supply on.
     fn powered(self, e: FlashEvent, lock: bool, watched: u8) -> FlashStep
-        ensures { result ≡ poweredOf self e lock watched }
+        ensures { result ≡ powered_of self e lock watched }
     {
         match e {
             FlashEvent::Select => self.select(lock),
@@ -308,7 +308,7 @@ impl Flash {
 
     // A record with the supply off.
     fn dark(self, e: FlashEvent) -> FlashStep
-        ensures { result ≡ darkOf self e }
+        ensures { result ≡ dark_of self e }
     {
         match e {
             FlashEvent::Select => silent(self.in_frame(FlashFrame::Void)),
@@ -335,7 +335,7 @@ impl Flash {
 
     // The supply goes off.
     fn supply_off(self) -> Flash
-        ensures { result ≡ supplyOffOf self }
+        ensures { result ≡ supply_off_of self }
     {
         let frame = self.frame;
         let cycle = self.cycle;
@@ -347,7 +347,7 @@ impl Flash {
 
     // The lock comes on.
     fn lock_on(self) -> Flash
-        ensures { result ≡ lockOnOf self }
+        ensures { result ≡ lock_on_of self }
     {
         let frame = self.frame;
         let cycle = self.cycle;
@@ -378,7 +378,7 @@ impl Flash {
 
     // Whether the status is lost.
     pub fn lost(self) -> bool
-        ensures { result ≡ lostOf self }
+        ensures { result ≡ lost_of self }
     {
         let status = self.status;
         match status {

@@ -5,8 +5,8 @@ use mathlib.Core.List.{List}
 use Prim.Native.Nat.{ℕ, suc, ◌<◌}
 use Rattle.law.specs.Words.{All}
 use Rattle.meaning.specs.Meaning.{after, outcome}
-use Rattle.meaning.specs.Listing.{shownAt}
-use Rattle.meaning.proofs.Alongside.{Pairwise, after-follows, shown-like}
+use Rattle.meaning.specs.Listing.{shown_at}
+use Rattle.meaning.proofs.Alongside.{Pairwise, after_follows, shown_like}
 use Rattle.record.specs.declared.Board.{Board}
 use Rattle.record.specs.declared.Chip.{Chip}
 use Rattle.record.specs.declared.Record.{Record}
@@ -22,18 +22,18 @@ use Rattle.line.specs.ChannelF.{FlashOk}
 use Rattle.line.specs.Records.{EventOk}
 use Rattle.cell.specs.declared.Cell.{Cell}
 use Rattle.image.specs.Image.{Image, cell_at}
-use Rattle.image.specs.Images.{imageAt, keptBytes, Kept}
-use Rattle.flash.proofs.Within.{Sends, BytePage, bytes-step, bytes-line, Fetches}
+use Rattle.image.specs.Images.{image_at, kept_bytes, Kept}
+use Rattle.flash.proofs.Within.{Sends, BytePage, bytes_step, bytes_line, Fetches}
 use Rattle.controls.specs.declared.Controls.{Controls}
-use Rattle.controls.specs.Play.{eventMoved, movedOf, lostOf}
+use Rattle.controls.specs.Play.{event_moved, moved_of, lost_of}
 use Rattle.machine.specs.Replies.{delivered}
-use Rattle.machine.specs.Machine.{Machine, imageFor, onMachine, playOn, saysOn}
+use Rattle.machine.specs.Machine.{Machine, image_for, on_machine, play_on, says_on}
 use Rattle.enough.specs.Enough.{Good}
-use Rattle.enough.proofs.Enough.{good-play}
-use Rattle.histories.specs.History.{bit_of, Fate, becomes, fateAt, Real, playReal, RealReply, byte, noByte, deliveredReal, busOf, saysReal, onReal}
-use Rattle.histories.proofs.Bits.{bit-zero}
+use Rattle.enough.proofs.Enough.{good_play}
+use Rattle.histories.specs.History.{bit_of, Fate, becomes, fate_at, Real, play_real, RealReply, byte, no_byte, delivered_real, bus_of, says_real, on_real}
+use Rattle.histories.proofs.Bits.{bit_zero}
 use Rattle.histories.proofs.OneBit.{Turns}
-use Rattle.histories.proofs.Places.{place-turns, images-kept}
+use Rattle.histories.proofs.Places.{place_turns, images_kept}
 use Rattle.histories.proofs.Fetched.{fetches}
 
 -- ---- a machine on the way: each image has its length, a PROGRAM's data are bytes, and the controls are reached
@@ -53,24 +53,24 @@ sends Cut h = tt
 sends Deselect h = tt
 sends End h = tt
 
-bytes-moved : (b : Board) (c : Controls) (v : Event) → EventOk v → BytePage c.flash.page → BytePage (eventMoved b c v).controls.flash.page
-bytes-moved b c (event.Flash e) k h = bytes-step c.flash e c.lines b.sector (sends e k) h
-bytes-moved b c (event.Eeprom e) k h = h
-bytes-moved b c (event.Line e) k h = bytes-line c.flash e c.lines h
+bytes_moved : (b : Board) (c : Controls) (v : Event) → EventOk v → BytePage c.flash.page → BytePage (event_moved b c v).controls.flash.page
+bytes_moved b c (event.Flash e) k h = bytes_step c.flash e c.lines b.sector (sends e k) h
+bytes_moved b c (event.Eeprom e) k h = h
+bytes_moved b c (event.Line e) k h = bytes_line c.flash e c.lines h
 
-pub sound-play : (b : Board) (m : Machine) (r : Record) → Ok r → Sound m → Sound (playOn b m r)
-unfolding playOn movedOf
-sound-play b m r k s = record {
-  kept = images-kept b m.controls r m.images s.kept;
-  bytes = bytes-moved b m.controls r.event k s.bytes;
-  good = good-play b m r s.good;
+pub sound_play : (b : Board) (m : Machine) (r : Record) → Ok r → Sound m → Sound (play_on b m r)
+unfolding play_on moved_of
+sound_play b m r k s = record {
+  kept = images_kept b m.controls r m.images s.kept;
+  bytes = bytes_moved b m.controls r.event k s.bytes;
+  good = good_play b m r s.good;
 }
 
 -- what a record makes of the kept byte at a place
-pub turns : (b : Board) (m : Machine) (r : Record) → Sound m → (chip : Chip) (k : ℕ) → k < keptBytes chip →
-    Turns (fateAt b m.controls r chip k) (cell_at (imageAt chip m.images) k) (cell_at (imageAt chip (playOn b m r).images) k)
-unfolding playOn
-turns b m r s chip k l = place-turns b m.controls r m.images s.kept s.bytes chip k l
+pub turns : (b : Board) (m : Machine) (r : Record) → Sound m → (chip : Chip) (k : ℕ) → k < kept_bytes chip →
+    Turns (fate_at b m.controls r chip k) (cell_at (image_at chip m.images) k) (cell_at (image_at chip (play_on b m r).images) k)
+unfolding play_on
+turns b m r s chip k l = place_turns b m.controls r m.images s.kept s.bytes chip k l
 
 module _ (Bit : Bool → Bool → Bool → Type 0) where
   -- of the eight bits of a byte
@@ -80,21 +80,21 @@ module _ (Bit : Bool → Bool → Bool → Type 0) where
   -- of what the machine replies and what is replied in a history: a byte stands to a byte, all else to none
   unfoldable pub Like : Reply → RealReply → Type 0
   Like (reply.Byte v m) (byte w) = EachBit (record { value = v; mask = m }) w
-  Like (reply.Byte v m) noByte = ⊥
+  Like (reply.Byte v m) no_byte = ⊥
   Like reply.NotPlayed (byte w) = ⊥
-  Like reply.NotPlayed noByte = Unit {0}
+  Like reply.NotPlayed no_byte = Unit {0}
   Like reply.Silent (byte w) = ⊥
-  Like reply.Silent noByte = Unit {0}
+  Like reply.Silent no_byte = Unit {0}
   Like reply.Ack (byte w) = ⊥
-  Like reply.Ack noByte = Unit {0}
+  Like reply.Ack no_byte = Unit {0}
   Like reply.NoAck (byte w) = ⊥
-  Like reply.NoAck noByte = Unit {0}
+  Like reply.NoAck no_byte = Unit {0}
   Like reply.Starts (byte w) = ⊥
-  Like reply.Starts noByte = Unit {0}
+  Like reply.Starts no_byte = Unit {0}
   Like reply.Ends (byte w) = ⊥
-  Like reply.Ends noByte = Unit {0}
+  Like reply.Ends no_byte = Unit {0}
   Like reply.NoCycle (byte w) = ⊥
-  Like reply.NoCycle noByte = Unit {0}
+  Like reply.NoCycle no_byte = Unit {0}
 
   module _ (b : Board) (Chosen : Bool → Type 0)
       (turn : (f : Fate) (c d : Cell) → Turns f c d → (j : ℕ) → j < 8 → (x chosen : Bool) → Chosen chosen → Bit (bit_of c.value j) (bit_of c.mask j) x → Bit (bit_of d.value j) (bit_of d.mask j) (becomes f j chosen x))
@@ -102,50 +102,50 @@ module _ (Bit : Bool → Bool → Bool → Type 0) where
     pub record Follows (m : Machine) (s : Real) : Type 0 where
       pub sound : Sound m
       pub moved : s.controls ≡ m.controls
-      pub bits : (chip : Chip) (k : ℕ) → k < keptBytes chip → EachBit (cell_at (imageAt chip m.images) k) (s.bits chip k)
+      pub bits : (chip : Chip) (k : ℕ) → k < kept_bytes chip → EachBit (cell_at (image_at chip m.images) k) (s.bits chip k)
       pub chosen : (n : ℕ) (chip : Chip) (k j : ℕ) → Chosen (s.choices n chip k j)
 
-    plays : (r : Record) → Ok r → (m : Machine) (s : Real) → Follows m s → Follows (playOn b m r) (playReal b s r)
-    unfolding playReal playOn
+    plays : (r : Record) → Ok r → (m : Machine) (s : Real) → Follows m s → Follows (play_on b m r) (play_real b s r)
+    unfolding play_real play_on
     plays r k m s h = record {
-      sound = sound-play b m r k h.sound;
-      moved = ap (λ (c : Controls). (movedOf b c r).controls) h.moved;
+      sound = sound_play b m r k h.sound;
+      moved = ap (λ (c : Controls). (moved_of b c r).controls) h.moved;
       bits = λ chip n l j q.
-          subst (λ (c : Controls). Bit (bit_of (cell_at (imageAt chip (playOn b m r).images) n).value j) (bit_of (cell_at (imageAt chip (playOn b m r).images) n).mask j) (becomes (fateAt b c r chip n) j (s.choices 0 chip n j) (s.bits chip n j)))
+          subst (λ (c : Controls). Bit (bit_of (cell_at (image_at chip (play_on b m r).images) n).value j) (bit_of (cell_at (image_at chip (play_on b m r).images) n).mask j) (becomes (fate_at b c r chip n) j (s.choices 0 chip n j) (s.bits chip n j)))
           (sym h.moved)
-          (turn (fateAt b m.controls r chip n) (cell_at (imageAt chip m.images) n) (cell_at (imageAt chip (playOn b m r).images) n) (turns b m r h.sound chip n l) j q
+          (turn (fate_at b m.controls r chip n) (cell_at (image_at chip m.images) n) (cell_at (image_at chip (play_on b m r).images) n) (turns b m r h.sound chip n l) j q
           (s.bits chip n j) (s.choices 0 chip n j) (h.chosen 0 chip n j) (h.bits chip n l j q));
       chosen = λ n. h.chosen (suc n);
     }
 
     -- a given byte is sure, a fetched one stands at a place that is kept
     given : (v : ℕ) → EachBit (record { value = v; mask = 0 }) (bit_of v)
-    given v j l = subst (λ (t : Bool). Bit (bit_of v j) t (bit_of v j)) (sym (bit-zero j l)) (sure (bit_of v j))
+    given v j l = subst (λ (t : Bool). Bit (bit_of v j) t (bit_of v j)) (sym (bit_zero j l)) (sure (bit_of v j))
 
-    deliver-like : (n : ℕ) (i : Image) (held : ℕ → ℕ → Bool) → ((k : ℕ) → k < n → EachBit (cell_at i k) (held k)) → (k : Skeleton) → Fetches n k → Like (delivered i k) (deliveredReal held k)
+    deliver_like : (n : ℕ) (i : Image) (held : ℕ → ℕ → Bool) → ((k : ℕ) → k < n → EachBit (cell_at i k) (held k)) → (k : Skeleton) → Fetches n k → Like (delivered i k) (delivered_real held k)
     unfolding delivered Like
-    deliver-like n i held h skeleton.Silent l = tt
-    deliver-like n i held h (skeleton.Given v) l = given v
-    deliver-like n i held h (skeleton.Fetch p) l = h p l
-    deliver-like n i held h skeleton.Ack l = tt
-    deliver-like n i held h skeleton.NoAck l = tt
-    deliver-like n i held h skeleton.Starts l = tt
-    deliver-like n i held h skeleton.Ends l = tt
-    deliver-like n i held h skeleton.NoCycle l = tt
+    deliver_like n i held h skeleton.Silent l = tt
+    deliver_like n i held h (skeleton.Given v) l = given v
+    deliver_like n i held h (skeleton.Fetch p) l = h p l
+    deliver_like n i held h skeleton.Ack l = tt
+    deliver_like n i held h skeleton.NoAck l = tt
+    deliver_like n i held h skeleton.Starts l = tt
+    deliver_like n i held h skeleton.Ends l = tt
+    deliver_like n i held h skeleton.NoCycle l = tt
 
-    event-like : (v : Event) (m : Machine) (s : Real) → Follows m s → Like (delivered (imageFor v m.images) (eventMoved b m.controls v).reply) (deliveredReal (s.bits (busOf v)) (eventMoved b m.controls v).reply)
-    event-like (event.Flash e) m s h = deliver-like (keptBytes Chip.Flash) _ _ (h.bits Chip.Flash) _ (fetches b m.controls h.sound.good (event.Flash e))
-    event-like (event.Eeprom e) m s h = deliver-like (keptBytes Chip.Eeprom) _ _ (h.bits Chip.Eeprom) _ (fetches b m.controls h.sound.good (event.Eeprom e))
-    event-like (event.Line e) m s h = deliver-like (keptBytes Chip.Flash) _ _ (h.bits Chip.Flash) _ (fetches b m.controls h.sound.good (event.Line e))
+    event_like : (v : Event) (m : Machine) (s : Real) → Follows m s → Like (delivered (image_for v m.images) (event_moved b m.controls v).reply) (delivered_real (s.bits (bus_of v)) (event_moved b m.controls v).reply)
+    event_like (event.Flash e) m s h = deliver_like (kept_bytes Chip.Flash) _ _ (h.bits Chip.Flash) _ (fetches b m.controls h.sound.good (event.Flash e))
+    event_like (event.Eeprom e) m s h = deliver_like (kept_bytes Chip.Eeprom) _ _ (h.bits Chip.Eeprom) _ (fetches b m.controls h.sound.good (event.Eeprom e))
+    event_like (event.Line e) m s h = deliver_like (kept_bytes Chip.Flash) _ _ (h.bits Chip.Flash) _ (fetches b m.controls h.sound.good (event.Line e))
 
-    tells : (r : Record) (m : Machine) (s : Real) → Follows m s → Like (saysOn b m r) (saysReal b s r)
-    unfolding saysOn saysReal movedOf
+    tells : (r : Record) (m : Machine) (s : Real) → Follows m s → Like (says_on b m r) (says_real b s r)
+    unfolding says_on says_real moved_of
     tells r m s h =
-        subst (λ (c : Controls). Like (saysOn b m r) (deliveredReal (s.bits (busOf r.event)) (eventMoved b c r.event).reply)) (sym h.moved) (event-like r.event m s h)
+        subst (λ (c : Controls). Like (says_on b m r) (delivered_real (s.bits (bus_of r.event)) (event_moved b c r.event).reply)) (sym h.moved) (event_like r.event m s h)
 
     -- along an order, and line by line
-    pub ends-follow : (o : List Record) → All Ok o → (m : Machine) (s : Real) → Follows m s → Follows (after (onMachine b) o m) (after (onReal b) o s)
-    ends-follow = after-follows (onMachine b) (playReal b) (saysReal b) (λ s. lostOf s.controls) Like Ok Follows plays tells
+    pub ends_follow : (o : List Record) → All Ok o → (m : Machine) (s : Real) → Follows m s → Follows (after (on_machine b) o m) (after (on_real b) o s)
+    ends_follow = after_follows (on_machine b) (play_real b) (says_real b) (λ s. lost_of s.controls) Like Ok Follows plays tells
 
-    pub shows-like : (rs o : List Record) → All Ok o → (m : Machine) (s : Real) → Follows m s → Pairwise Like (shownAt (onMachine b) rs (outcome (onMachine b) o m)) (shownAt (onReal b) rs (outcome (onReal b) o s))
-    shows-like = shown-like (onMachine b) (playReal b) (saysReal b) (λ s. lostOf s.controls) Like Ok Follows plays tells
+    pub shows_like : (rs o : List Record) → All Ok o → (m : Machine) (s : Real) → Follows m s → Pairwise Like (shown_at (on_machine b) rs (outcome (on_machine b) o m)) (shown_at (on_real b) rs (outcome (on_real b) o s))
+    shows_like = shown_like (on_machine b) (play_real b) (says_real b) (λ s. lost_of s.controls) Like Ok Follows plays tells

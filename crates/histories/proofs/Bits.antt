@@ -7,7 +7,7 @@ use native.Mathlib.Omega.{arith}
 use lib.Dec.{eqb}
 use lib.Bits.{bit_and, bit_or, and_shr, or_shr}
 use Rattle.cell.specs.Rules.{not8}
-use Rattle.cell.proofs.Disjoint.{and-odd, or-odd}
+use Rattle.cell.proofs.Disjoint.{and_odd, or_odd}
 use Rattle.histories.specs.History.{bit_of}
 
 -- a digit's test
@@ -29,14 +29,14 @@ digit_or (suc zero) (suc zero) h k = refl
 digit_or (suc zero) (suc (suc b)) h k = absurd (omega arith)
 digit_or (suc (suc a)) b h k = absurd (omega arith)
 
-pub bit-and : (a b j : ℕ) → bit_of (bit_and a b) j ≡ (bit_of a j && bit_of b j)
-bit-and a b j =
-    ap (λ (n : ℕ). eqb n 1) (ap (λ (n : ℕ). n % 2) (and_shr a b j) ∙ and-odd (a / 2 ^ j) (b / 2 ^ j))
+pub bit_and_lem : (a b j : ℕ) → bit_of (bit_and a b) j ≡ (bit_of a j && bit_of b j)
+bit_and_lem a b j =
+    ap (λ (n : ℕ). eqb n 1) (ap (λ (n : ℕ). n % 2) (and_shr a b j) ∙ and_odd (a / 2 ^ j) (b / 2 ^ j))
     ∙ digit_and (a / 2 ^ j % 2) (b / 2 ^ j % 2) (mod-lt _ (omega arith)) (mod-lt _ (omega arith))
 
-pub bit-or : (a b j : ℕ) → bit_of (bit_or a b) j ≡ (bit_of a j || bit_of b j)
-bit-or a b j =
-    ap (λ (n : ℕ). eqb n 1) (ap (λ (n : ℕ). n % 2) (or_shr a b j) ∙ or-odd (a / 2 ^ j) (b / 2 ^ j))
+pub bit_or_lem : (a b j : ℕ) → bit_of (bit_or a b) j ≡ (bit_of a j || bit_of b j)
+bit_or_lem a b j =
+    ap (λ (n : ℕ). eqb n 1) (ap (λ (n : ℕ). n % 2) (or_shr a b j) ∙ or_odd (a / 2 ^ j) (b / 2 ^ j))
     ∙ digit_or (a / 2 ^ j % 2) (b / 2 ^ j % 2) (mod-lt _ (omega arith)) (mod-lt _ (omega arith))
 
 -- what holds of each of the eight bits
@@ -51,11 +51,11 @@ eight P a b c d e f g h (suc (suc (suc (suc (suc (suc zero)))))) l = g
 eight P a b c d e f g h (suc (suc (suc (suc (suc (suc (suc zero))))))) l = h
 eight P a b c d e f g h (suc (suc (suc (suc (suc (suc (suc (suc j)))))))) l = absurd (omega arith)
 
-pub bit-zero : (j : ℕ) → j < 8 → bit_of 0 j ≡ false
-bit-zero = eight (λ (j : ℕ). bit_of 0 j ≡ false) refl refl refl refl refl refl refl refl
+pub bit_zero : (j : ℕ) → j < 8 → bit_of 0 j ≡ false
+bit_zero = eight (λ (j : ℕ). bit_of 0 j ≡ false) refl refl refl refl refl refl refl refl
 
-pub bit-ff : (j : ℕ) → j < 8 → bit_of 255 j ≡ true
-bit-ff = eight (λ (j : ℕ). bit_of 255 j ≡ true) refl refl refl refl refl refl refl refl
+pub bit_ff : (j : ℕ) → j < 8 → bit_of 255 j ≡ true
+bit_ff = eight (λ (j : ℕ). bit_of 255 j ≡ true) refl refl refl refl refl refl refl refl
 
 digit_not : (a b : ℕ) → a + b ≡ 1 → eqb a 1 ≡ not (eqb b 1)
 digit_not zero zero h = absurd (omega arith)

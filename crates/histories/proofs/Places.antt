@@ -13,19 +13,19 @@ use Rattle.record.specs.declared.Board.{Board}
 use Rattle.record.specs.declared.Chip.{Chip}
 use Rattle.record.specs.declared.Record.{Record}
 use Rattle.cell.specs.declared.Cell.{Cell}
-use Rattle.cell.specs.Rules.{storedCell, programmedCell, cutCell, doubtfulCell}
-use Rattle.page.specs.Geometry.{flashPage, flashSector, eepromPage, eepromSize}
-use Rattle.page.specs.Rolling.{sentPlace}
-use Rattle.image.specs.Image.{Image, spans, cell_at, inPage, onPage}
-use Rattle.image.specs.Images.{Images, imageAt, keptBytes, Kept}
-use Rattle.image.specs.Cycles.{programPage, cutProgramPage, eraseAll, cutEraseAll, storePage, cutStorePage}
-use Rattle.image.proofs.Pages.{in-page, off-page}
-use Rattle.image.proofs.Reading.{page-at, page-off}
-use Rattle.image.proofs.AtPlace.{eraseAll-at, cutEraseAll-at}
-use Rattle.image.proofs.Keeping.{spans-programPage, spans-cutProgramPage, spans-eraseAll, spans-cutEraseAll, spans-storePage, spans-cutStorePage}
+use Rattle.cell.specs.Rules.{stored_cell, programmed_cell, cut_cell, doubtful_cell}
+use Rattle.page.specs.Geometry.{flash_page, flash_sector, eeprom_page, eeprom_size}
+use Rattle.page.specs.Rolling.{sent_place}
+use Rattle.image.specs.Image.{Image, spans, cell_at, in_page, on_page}
+use Rattle.image.specs.Images.{Images, image_at, kept_bytes, Kept}
+use Rattle.image.specs.Cycles.{program_page, cut_program_page, erase_all, cut_erase_all, store_page, cut_store_page}
+use Rattle.image.proofs.Pages.{in_page_lem, off_page}
+use Rattle.image.proofs.Reading.{page_at_lem, page_off}
+use Rattle.image.proofs.AtPlace.{erase_all_at, cut_erase_all_at}
+use Rattle.image.proofs.Keeping.{spans_program_page, spans_cut_program_page, spans_erase_all, spans_cut_erase_all, spans_store_page, spans_cut_store_page}
 use Rattle.times.specs.declared.Pages.{Pages}
 use Rattle.times.specs.declared.Pages.TheVariants.{None, One, All}
-use Rattle.times.specs.Times.{reaches, onPages}
+use Rattle.times.specs.Times.{reaches, on_pages}
 use Rattle.flash.specs.declared.Flash.{Flash}
 use Rattle.flash.specs.declared.FlashStatus.{FlashStatus}
 use Rattle.flash.specs.declared.FlashCycle.{FlashCycle}
@@ -34,13 +34,13 @@ use Rattle.eeprom.specs.declared.Eeprom.{Eeprom}
 use Rattle.eeprom.specs.declared.EepromCycle.{EepromCycle}
 use Rattle.eeprom.specs.declared.EepromCycle.TheVariants as eeprom-cycle
 use Rattle.controls.specs.declared.Controls.{Controls}
-use Rattle.controls.specs.Play.{movedOf}
+use Rattle.controls.specs.Play.{moved_of}
 use Rattle.machine.specs.declared.effects.Stroke.{Stroke}
 use Rattle.machine.specs.declared.effects.Stroke.TheVariants.{Nothing, Whole, Cut}
-use Rattle.machine.specs.Effects.{strokeFor, sectorOfPage, inSector, reached, flashPages, eepromPages, strokePages, programBy, eraseBy, sentIn, storeBy, flashAfter, eepromAfter, imagesAfter}
-use Rattle.machine.proofs.EachCycle.{EachCycle, images-keep}
-use Rattle.histories.specs.History.{Fate, stays, programs, erases, stores, oldOrNew, anyValue, flashFate, eepromFate, fateAt}
-use Rattle.histories.proofs.OneBit.{cellBy, DataByte, Turns}
+use Rattle.machine.specs.Effects.{stroke_for, sector_of_page, in_sector, reached, flash_pages, eeprom_pages, stroke_pages, program_by, erase_by, sent_in, store_by, flash_after, eeprom_after, images_after}
+use Rattle.machine.proofs.EachCycle.{EachCycle, images_keep}
+use Rattle.histories.specs.History.{Fate, stays, programs, erases, stores, old_or_new, any_value, flash_fate, eeprom_fate, fate_at}
+use Rattle.histories.proofs.OneBit.{cell_by, DataByte, Turns}
 use Rattle.flash.proofs.Within.{BytePage, byte_at}
 
 -- nothing changes
@@ -48,18 +48,18 @@ unchanged : (c : Cell) → Turns stays c c
 unchanged c = record { is = refl; byte = tt }
 
 -- a fate that a test allows
-allowed : (t : Bool) (f : Fate) (c d : Cell) → DataByte f → d ≡ pick t (cellBy f c) c → Turns (pick t f stays) c d
+allowed : (t : Bool) (f : Fate) (c d : Cell) → DataByte f → d ≡ pick t (cell_by f c) c → Turns (pick t f stays) c d
 allowed true f c d s e = record { is = e; byte = s }
 allowed false f c d s e = record { is = e; byte = tt }
 
 -- one that two allow, as at the places sent of a page
-allowed-twice : (t u : Bool) (f : Fate) (c d : Cell) → DataByte f → d ≡ pick t (pick u (cellBy f c) c) c → Turns (pick t (pick u f stays) stays) c d
-allowed-twice true u f c d s e = allowed u f c d s e
-allowed-twice false u f c d s e = record { is = e; byte = tt }
+allowed_twice : (t u : Bool) (f : Fate) (c d : Cell) → DataByte f → d ≡ pick t (pick u (cell_by f c) c) c → Turns (pick t (pick u f stays) stays) c d
+allowed_twice true u f c d s e = allowed u f c d s e
+allowed_twice false u f c d s e = record { is = e; byte = tt }
 
 -- the fate on the pages that are touched, and the image after it
 abbrev OnTouched : Image → ℕ → ℕ → (ℕ → Image → Image) → (Image → Image) → Fate → Pages → Type 0
-OnTouched i k size one all f p = Turns (pick (reaches p (k / size)) f stays) (cell_at i k) (cell_at (onPages one all p i) k)
+OnTouched i k size one all f p = Turns (pick (reaches p (k / size)) f stays) (cell_at i k) (cell_at (on_pages one all p i) k)
 
 -- pages that a test allows
 tested : (i : Image) (k size : ℕ) (one : ℕ → Image → Image) (all : Image → Image) (f : Fate) (t : Bool) (p : Pages) → OnTouched i k size one all f p → OnTouched i k size one all f (pick t p None)
@@ -68,98 +68,98 @@ tested i k size one all f false p w = unchanged (cell_at i k)
 
 -- an image of n bytes, and a place of it
 module _ (i : Image) (n : ℕ) (spanned : spans n i ≡ true) (k : ℕ) (l : k < n) where
-  page-place : (size number : ℕ) (rule : ℕ → Cell → Cell) → (k / size ≡ number → number < n / size) → cell_at (onPage size number rule i) k ≡ inPage size number rule k (cell_at i k)
-  page-place size number rule h =
+  page_place : (size number : ℕ) (rule : ℕ → Cell → Cell) → (k / size ≡ number → number < n / size) → cell_at (on_page size number rule i) k ≡ in_page size number rule k (cell_at i k)
+  page_place size number rule h =
       split (eqb (k / size) number)
-      (λ e. page-at size number rule i n spanned (h (eqb-true _ _ e)) k l (eqb-true _ _ e) ∙ sym (in-page size number rule k (cell_at i k) (eqb-true _ _ e)))
-      (λ e. page-off size number rule i k (eqb-false _ _ e) ∙ sym (off-page size number rule k (cell_at i k) (eqb-false _ _ e)))
+      (λ e. page_at_lem size number rule i n spanned (h (eqb-true _ _ e)) k l (eqb-true _ _ e) ∙ sym (in_page_lem size number rule k (cell_at i k) (eqb-true _ _ e)))
+      (λ e. page_off size number rule i k (eqb-false _ _ e) ∙ sym (off_page size number rule k (cell_at i k) (eqb-false _ _ e)))
 
 -- ---- the flash
-module _ (i : Image) (spanned : spans flashSector i ≡ true) (k : ℕ) (l : k < flashSector) where
-  flash-place : (number : ℕ) (rule : ℕ → Cell → Cell) → cell_at (onPage flashPage number rule i) k ≡ inPage flashPage number rule k (cell_at i k)
-  flash-place number rule = page-place i flashSector spanned k l flashPage number rule (λ e. omega arith)
+module _ (i : Image) (spanned : spans flash_sector i ≡ true) (k : ℕ) (l : k < flash_sector) where
+  flash_place : (number : ℕ) (rule : ℕ → Cell → Cell) → cell_at (on_page flash_page number rule i) k ≡ in_page flash_page number rule k (cell_at i k)
+  flash_place number rule = page_place i flash_sector spanned k l flash_page number rule (λ e. omega arith)
 
-  erase-turns : Turns erases (cell_at i k) (cell_at (eraseAll i) k)
-  erase-turns = record { is = eraseAll-at i flashSector spanned k l; byte = tt }
+  erase_turns : Turns erases (cell_at i k) (cell_at (erase_all i) k)
+  erase_turns = record { is = erase_all_at i flash_sector spanned k l; byte = tt }
 
-  cut-erase-turns : Turns anyValue (cell_at i k) (cell_at (cutEraseAll i) k)
-  cut-erase-turns = record { is = cutEraseAll-at i flashSector spanned k l; byte = tt }
+  cut_erase_turns : Turns any_value (cell_at i k) (cell_at (cut_erase_all i) k)
+  cut_erase_turns = record { is = cut_erase_all_at i flash_sector spanned k l; byte = tt }
 
   -- what a stroke of this cycle makes of the place
   abbrev Struck : Stroke → ℕ → FlashCycle → List ℕ → FlashStatus → Type 0
   Struck s watched cycle page status =
-      OnTouched i k flashPage (programBy s page) (eraseBy s) (flashFate s cycle (get_or page (k % flashPage) 0)) (strokePages s (flashPages watched cycle status))
+      OnTouched i k flash_page (program_by s page) (erase_by s) (flash_fate s cycle (get_or page (k % flash_page) 0)) (stroke_pages s (flash_pages watched cycle status))
 
-  whole-turns : (watched : ℕ) (cycle : FlashCycle) (page : List ℕ) (status : FlashStatus) → Struck Whole watched cycle page status
-  unfolding programPage
-  whole-turns watched flash-cycle.None page status = unchanged (cell_at i k)
-  whole-turns watched (flash-cycle.Program n) page status =
-      let d = get_or page (k % flashPage) 0 in
-      tested i k flashPage (programBy Whole page) (eraseBy Whole) (programs d) (eqb (sectorOfPage n) watched) (One (inSector n))
-      (allowed (eqb (k / flashPage) (inSector n)) (programs d) (cell_at i k) (cell_at (programPage (inSector n) page i) k) tt (flash-place (inSector n) (λ q c. programmedCell c (get_or page q 0))))
-  whole-turns watched (flash-cycle.SectorErase sector) page status =
-      tested i k flashPage (programBy Whole page) (eraseBy Whole) erases (eqb sector watched) All erase-turns
-  whole-turns watched flash-cycle.ChipErase page status =
-      tested i k flashPage (programBy Whole page) (eraseBy Whole) erases (reached status watched) All erase-turns
-  whole-turns watched (flash-cycle.WriteStatus bits) page status = unchanged (cell_at i k)
+  whole_turns : (watched : ℕ) (cycle : FlashCycle) (page : List ℕ) (status : FlashStatus) → Struck Whole watched cycle page status
+  unfolding program_page
+  whole_turns watched flash-cycle.None page status = unchanged (cell_at i k)
+  whole_turns watched (flash-cycle.Program n) page status =
+      let d = get_or page (k % flash_page) 0 in
+      tested i k flash_page (program_by Whole page) (erase_by Whole) (programs d) (eqb (sector_of_page n) watched) (One (in_sector n))
+      (allowed (eqb (k / flash_page) (in_sector n)) (programs d) (cell_at i k) (cell_at (program_page (in_sector n) page i) k) tt (flash_place (in_sector n) (λ q c. programmed_cell c (get_or page q 0))))
+  whole_turns watched (flash-cycle.SectorErase sector) page status =
+      tested i k flash_page (program_by Whole page) (erase_by Whole) erases (eqb sector watched) All erase_turns
+  whole_turns watched flash-cycle.ChipErase page status =
+      tested i k flash_page (program_by Whole page) (erase_by Whole) erases (reached status watched) All erase_turns
+  whole_turns watched (flash-cycle.WriteStatus bits) page status = unchanged (cell_at i k)
 
-  cut-turns : (watched : ℕ) (cycle : FlashCycle) (page : List ℕ) (status : FlashStatus) → BytePage page → Struck Cut watched cycle page status
-  unfolding cutProgramPage
-  cut-turns watched flash-cycle.None page status h = unchanged (cell_at i k)
-  cut-turns watched (flash-cycle.Program n) page status h =
-      let d = get_or page (k % flashPage) 0 in
-      tested i k flashPage (programBy Cut page) (eraseBy Cut) (oldOrNew d) (eqb (sectorOfPage n) watched) (One (inSector n))
-      (allowed (eqb (k / flashPage) (inSector n)) (oldOrNew d) (cell_at i k) (cell_at (cutProgramPage (inSector n) page i) k) (byte_at page h (k % flashPage)) (flash-place (inSector n) (λ q c. cutCell c (get_or page q 0))))
-  cut-turns watched (flash-cycle.SectorErase sector) page status h =
-      tested i k flashPage (programBy Cut page) (eraseBy Cut) anyValue (eqb sector watched) All cut-erase-turns
-  cut-turns watched flash-cycle.ChipErase page status h =
-      tested i k flashPage (programBy Cut page) (eraseBy Cut) anyValue (reached status watched) All cut-erase-turns
-  cut-turns watched (flash-cycle.WriteStatus bits) page status h = unchanged (cell_at i k)
+  cut_turns : (watched : ℕ) (cycle : FlashCycle) (page : List ℕ) (status : FlashStatus) → BytePage page → Struck Cut watched cycle page status
+  unfolding cut_program_page
+  cut_turns watched flash-cycle.None page status h = unchanged (cell_at i k)
+  cut_turns watched (flash-cycle.Program n) page status h =
+      let d = get_or page (k % flash_page) 0 in
+      tested i k flash_page (program_by Cut page) (erase_by Cut) (old_or_new d) (eqb (sector_of_page n) watched) (One (in_sector n))
+      (allowed (eqb (k / flash_page) (in_sector n)) (old_or_new d) (cell_at i k) (cell_at (cut_program_page (in_sector n) page i) k) (byte_at page h (k % flash_page)) (flash_place (in_sector n) (λ q c. cut_cell c (get_or page q 0))))
+  cut_turns watched (flash-cycle.SectorErase sector) page status h =
+      tested i k flash_page (program_by Cut page) (erase_by Cut) any_value (eqb sector watched) All cut_erase_turns
+  cut_turns watched flash-cycle.ChipErase page status h =
+      tested i k flash_page (program_by Cut page) (erase_by Cut) any_value (reached status watched) All cut_erase_turns
+  cut_turns watched (flash-cycle.WriteStatus bits) page status h = unchanged (cell_at i k)
 
-  flash-turns : (s : Stroke) (watched : ℕ) (f : Flash) → BytePage f.page → Struck s watched f.cycle f.page f.status
-  flash-turns Nothing watched f h = unchanged (cell_at i k)
-  flash-turns Whole watched f h = whole-turns watched f.cycle f.page f.status
-  flash-turns Cut watched f h = cut-turns watched f.cycle f.page f.status h
+  flash_turns : (s : Stroke) (watched : ℕ) (f : Flash) → BytePage f.page → Struck s watched f.cycle f.page f.status
+  flash_turns Nothing watched f h = unchanged (cell_at i k)
+  flash_turns Whole watched f h = whole_turns watched f.cycle f.page f.status
+  flash_turns Cut watched f h = cut_turns watched f.cycle f.page f.status h
 
 -- ---- the EEPROM
-module _ (i : Image) (spanned : spans eepromSize i ≡ true) (k : ℕ) (l : k < eepromSize) where
-  eeprom-place : (number : ℕ) (rule : ℕ → Cell → Cell) → cell_at (onPage eepromPage number rule i) k ≡ inPage eepromPage number rule k (cell_at i k)
-  eeprom-place number rule = page-place i eepromSize spanned k l eepromPage number rule (λ e. omega arith)
+module _ (i : Image) (spanned : spans eeprom_size i ≡ true) (k : ℕ) (l : k < eeprom_size) where
+  eeprom_place : (number : ℕ) (rule : ℕ → Cell → Cell) → cell_at (on_page eeprom_page number rule i) k ≡ in_page eeprom_page number rule k (cell_at i k)
+  eeprom_place number rule = page_place i eeprom_size spanned k l eeprom_page number rule (λ e. omega arith)
 
   abbrev Stored : Stroke → EepromCycle → List ℕ → Type 0
-  Stored s cycle page = OnTouched i k eepromPage (storeBy s (sentIn cycle) page) (λ z. z) (eepromFate s cycle page (k % eepromPage)) (strokePages s (eepromPages cycle))
+  Stored s cycle page = OnTouched i k eeprom_page (store_by s (sent_in cycle) page) (λ z. z) (eeprom_fate s cycle page (k % eeprom_page)) (stroke_pages s (eeprom_pages cycle))
 
-  eeprom-turns : (s : Stroke) (cycle : EepromCycle) (page : List ℕ) → Stored s cycle page
-  unfolding storePage cutStorePage
-  eeprom-turns Nothing cycle page = unchanged (cell_at i k)
-  eeprom-turns Whole eeprom-cycle.None page = unchanged (cell_at i k)
-  eeprom-turns Whole (eeprom-cycle.Write s) page =
-      allowed-twice (eqb (k / eepromPage) s.page) (sentPlace eepromPage s.first s.count (k % eepromPage)) (stores (get_or page (k % eepromPage) 0)) (cell_at i k)
-      (cell_at (storePage s.page s.first s.count page i) k) tt
-      (eeprom-place s.page (λ q c. pick (sentPlace eepromPage s.first s.count q) (storedCell (get_or page q 0)) c))
-  eeprom-turns Cut eeprom-cycle.None page = unchanged (cell_at i k)
-  eeprom-turns Cut (eeprom-cycle.Write s) page =
-      allowed (eqb (k / eepromPage) s.page) anyValue (cell_at i k) (cell_at (cutStorePage s.page i) k) tt (eeprom-place s.page (λ q c. doubtfulCell))
+  eeprom_turns : (s : Stroke) (cycle : EepromCycle) (page : List ℕ) → Stored s cycle page
+  unfolding store_page cut_store_page
+  eeprom_turns Nothing cycle page = unchanged (cell_at i k)
+  eeprom_turns Whole eeprom-cycle.None page = unchanged (cell_at i k)
+  eeprom_turns Whole (eeprom-cycle.Write s) page =
+      allowed_twice (eqb (k / eeprom_page) s.page) (sent_place eeprom_page s.first s.count (k % eeprom_page)) (stores (get_or page (k % eeprom_page) 0)) (cell_at i k)
+      (cell_at (store_page s.page s.first s.count page i) k) tt
+      (eeprom_place s.page (λ q c. pick (sent_place eeprom_page s.first s.count q) (stored_cell (get_or page q 0)) c))
+  eeprom_turns Cut eeprom-cycle.None page = unchanged (cell_at i k)
+  eeprom_turns Cut (eeprom-cycle.Write s) page =
+      allowed (eqb (k / eeprom_page) s.page) any_value (cell_at i k) (cell_at (cut_store_page s.page i) k) tt (eeprom_place s.page (λ q c. doubtful_cell))
 
 -- ---- a record, and each chip
-pub place-turns : (b : Board) (c : Controls) (r : Record) (x : Images) → Kept x → BytePage c.flash.page → (chip : Chip) (k : ℕ) → k < keptBytes chip →
-    Turns (fateAt b c r chip k) (cell_at (imageAt chip x) k) (cell_at (imageAt chip (imagesAfter b c r.event (movedOf b c r).reply x)) k)
-unfolding fateAt flashAfter eepromAfter
-place-turns b c r x kept h Chip.Flash k l =
-    flash-turns x.flash (kept Chip.Flash) k l (strokeFor Chip.Flash c.lines r.event (movedOf b c r).reply) b.sector c.flash h
-place-turns b c r x kept h Chip.Eeprom k l =
-    eeprom-turns x.eeprom (kept Chip.Eeprom) k l (strokeFor Chip.Eeprom c.lines r.event (movedOf b c r).reply) c.eeprom.cycle c.eeprom.page
+pub place_turns : (b : Board) (c : Controls) (r : Record) (x : Images) → Kept x → BytePage c.flash.page → (chip : Chip) (k : ℕ) → k < kept_bytes chip →
+    Turns (fate_at b c r chip k) (cell_at (image_at chip x) k) (cell_at (image_at chip (images_after b c r.event (moved_of b c r).reply x)) k)
+unfolding fate_at flash_after eeprom_after
+place_turns b c r x kept h Chip.Flash k l =
+    flash_turns x.flash (kept Chip.Flash) k l (stroke_for Chip.Flash c.lines r.event (moved_of b c r).reply) b.sector c.flash h
+place_turns b c r x kept h Chip.Eeprom k l =
+    eeprom_turns x.eeprom (kept Chip.Eeprom) k l (stroke_for Chip.Eeprom c.lines r.event (moved_of b c r).reply) c.eeprom.cycle c.eeprom.page
 
 -- ---- every image keeps its length
-spans-cycles : (n : ℕ) → EachCycle (λ i. spans n i ≡ true)
-spans-cycles n = record {
-  program = λ m bytes i h. spans-programPage i n m bytes ∙ h;
-  cut-program = λ m bytes i h. spans-cutProgramPage i n m bytes ∙ h;
-  erase = λ i h. spans-eraseAll i n ∙ h;
-  cut-erase = λ i h. spans-cutEraseAll i n ∙ h;
-  store = λ m first count bytes i h. spans-storePage i n m first count bytes ∙ h;
-  cut-store = λ m i h. spans-cutStorePage i n m ∙ h;
+spans_cycles : (n : ℕ) → EachCycle (λ i. spans n i ≡ true)
+spans_cycles n = record {
+  program = λ m bytes i h. spans_program_page i n m bytes ∙ h;
+  cut_program = λ m bytes i h. spans_cut_program_page i n m bytes ∙ h;
+  erase = λ i h. spans_erase_all i n ∙ h;
+  cut_erase = λ i h. spans_cut_erase_all i n ∙ h;
+  store = λ m first count bytes i h. spans_store_page i n m first count bytes ∙ h;
+  cut_store = λ m i h. spans_cut_store_page i n m ∙ h;
 }
 
-pub images-kept : (b : Board) (c : Controls) (r : Record) (x : Images) → Kept x → Kept (imagesAfter b c r.event (movedOf b c r).reply x)
-images-kept b c r x kept = images-keep (λ chip i. spans (keptBytes chip) i ≡ true) (λ chip. spans-cycles (keptBytes chip)) b c r.event (movedOf b c r).reply x kept
+pub images_kept : (b : Board) (c : Controls) (r : Record) (x : Images) → Kept x → Kept (images_after b c r.event (moved_of b c r).reply x)
+images_kept b c r x kept = images_keep (λ chip i. spans (kept_bytes chip) i ≡ true) (λ chip. spans_cycles (kept_bytes chip)) b c r.event (moved_of b c r).reply x kept

@@ -7,49 +7,49 @@ use borrow.Author.Tests.{eq-eqb, ne_eqb, eqb-true, lt-ltb, le-ltb}
 use lib.ListN.{length}
 use Rattle.law.specs.Choice.{both}
 use Rattle.cell.specs.declared.Cell.{Cell}
-use Rattle.image.specs.Image.{Image, size_of, spans, eachPlace, onImage, inPage, onPage}
+use Rattle.image.specs.Image.{Image, size_of, spans, each_place, on_image, in_page, on_page}
 
 module _ (i : Image) where
   -- an image of n bytes
   module _ (n : ℕ) where
-    pub lengths-span : length i.values ≡ n → length i.masks ≡ n → spans n i ≡ true
+    pub lengths_span : length i.values ≡ n → length i.masks ≡ n → spans n i ≡ true
     unfolding spans
-    lengths-span v m = simp (eq-eqb _ _ v, eq-eqb _ _ m)
+    lengths_span v m = simp (eq-eqb _ _ v, eq-eqb _ _ m)
 
-    pub spans-values : spans n i ≡ true → length i.values ≡ n
+    pub spans_values : spans n i ≡ true → length i.values ≡ n
     unfolding spans
-    spans-values e = eqb-true _ _ (both (eqb (length i.values) n) (eqb (length i.masks) n) e).0
+    spans_values e = eqb-true _ _ (both (eqb (length i.values) n) (eqb (length i.masks) n) e).0
 
-    pub spans-masks : spans n i ≡ true → length i.masks ≡ n
+    pub spans_masks : spans n i ≡ true → length i.masks ≡ n
     unfolding spans
-    spans-masks e = eqb-true _ _ (both (eqb (length i.values) n) (eqb (length i.masks) n) e).1
+    spans_masks e = eqb-true _ _ (both (eqb (length i.values) n) (eqb (length i.masks) n) e).1
 
   -- it fits: as many masks as values
-  pub lengths-fit : length i.masks ≡ length i.values → spans (size_of i) i ≡ true
-  lengths-fit e = lengths-span (size_of i) refl e
+  pub lengths_fit : length i.masks ≡ length i.values → spans (size_of i) i ≡ true
+  lengths_fit e = lengths_span (size_of i) refl e
 
-  pub lengths-unfit : (length i.masks ≡ length i.values → ⊥) → spans (size_of i) i ≡ false
+  pub lengths_unfit : (length i.masks ≡ length i.values → ⊥) → spans (size_of i) i ≡ false
   unfolding spans
-  lengths-unfit n = simp (eq-eqb (size_of i) (size_of i) refl, ne_eqb _ _ n)
+  lengths_unfit n = simp (eq-eqb (size_of i) (size_of i) refl, ne_eqb _ _ n)
 
-  pub spans-fits : (n : ℕ) → spans n i ≡ true → spans (size_of i) i ≡ true
-  spans-fits n e = lengths-fit (spans-masks n e ∙ sym (spans-values n e))
+  pub spans_fits : (n : ℕ) → spans n i ≡ true → spans (size_of i) i ≡ true
+  spans_fits n e = lengths_fit (spans_masks n e ∙ sym (spans_values n e))
 
   -- what the rules are where the image fits, and where not
   module _ (rule : ℕ → Cell → Cell) where
-    pub on-fit : spans (size_of i) i ≡ true → onImage rule i ≡ eachPlace rule i
-    unfolding onImage
-    on-fit e = simp e
+    pub on_fit : spans (size_of i) i ≡ true → on_image rule i ≡ each_place rule i
+    unfolding on_image
+    on_fit e = simp e
 
-    pub on-unfit : spans (size_of i) i ≡ false → onImage rule i ≡ i
-    unfolding onImage
-    on-unfit e = simp e
+    pub on_unfit : spans (size_of i) i ≡ false → on_image rule i ≡ i
+    unfolding on_image
+    on_unfit e = simp e
 
   module _ (size number : ℕ) (rule : ℕ → Cell → Cell) where
-    pub page-there : number < size_of i / size → onPage size number rule i ≡ onImage (inPage size number rule) i
-    unfolding onPage
-    page-there h = simp (lt-ltb _ _ h)
+    pub page_there : number < size_of i / size → on_page size number rule i ≡ on_image (in_page size number rule) i
+    unfolding on_page
+    page_there h = simp (lt-ltb _ _ h)
 
-    pub page-none : size_of i / size ≤ number → onPage size number rule i ≡ i
-    unfolding onPage
-    page-none h = simp (le-ltb _ _ h)
+    pub page_none : size_of i / size ≤ number → on_page size number rule i ≡ i
+    unfolding on_page
+    page_none h = simp (le-ltb _ _ h)

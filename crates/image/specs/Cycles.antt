@@ -2,31 +2,31 @@
 -- 'EEPROM rules', 'Supply'; request 3/12).
 use Rattle.std.specs.Prelude.{ℕ, List, get_or}
 use Rattle.law.specs.Words.{pick}
-use Rattle.cell.specs.Rules.{erasedCell, doubtfulCell, storedCell, programmedCell, cutCell}
-use Rattle.page.specs.Geometry.{flashPage, eepromPage}
-use Rattle.page.specs.Rolling.{sentPlace}
-use Rattle.image.specs.Image.{Image, onImage, onPage}
+use Rattle.cell.specs.Rules.{erased_cell, doubtful_cell, stored_cell, programmed_cell, cut_cell}
+use Rattle.page.specs.Geometry.{flash_page, eeprom_page}
+use Rattle.page.specs.Rolling.{sent_place}
+use Rattle.image.specs.Image.{Image, on_image, on_page}
 
--- PROGRAM at `end`. `bytes` has ff where nothing was sent, which changes nothing: so only the bytes sent change (law `programPage-unsent`)
-unfoldable pub programPage : ℕ → List ℕ → Image → Image
-programPage number bytes = onPage flashPage number (λ q c. programmedCell c (get_or bytes q 0))
+-- PROGRAM at `end`. `bytes` has ff where nothing was sent, which changes nothing: so only the bytes sent change (law `program_page_unsent`)
+unfoldable pub program_page : ℕ → List ℕ → Image → Image
+program_page number bytes = on_page flash_page number (λ q c. programmed_cell c (get_or bytes q 0))
 
 -- PROGRAM at `off`
-unfoldable pub cutProgramPage : ℕ → List ℕ → Image → Image
-cutProgramPage number bytes = onPage flashPage number (λ q c. cutCell c (get_or bytes q 0))
+unfoldable pub cut_program_page : ℕ → List ℕ → Image → Image
+cut_program_page number bytes = on_page flash_page number (λ q c. cut_cell c (get_or bytes q 0))
 
 -- an erase that reaches the watched sector, at `end`
-unfoldable pub eraseAll : Image → Image
-eraseAll = onImage (λ k c. erasedCell)
+unfoldable pub erase_all : Image → Image
+erase_all = on_image (λ k c. erased_cell)
 
 -- the same at `off`
-unfoldable pub cutEraseAll : Image → Image
-cutEraseAll = onImage (λ k c. doubtfulCell)
+unfoldable pub cut_erase_all : Image → Image
+cut_erase_all = on_image (λ k c. doubtful_cell)
 
 -- an EEPROM write at `end`: the bytes sent are put in
-unfoldable pub storePage : ℕ → ℕ → ℕ → List ℕ → Image → Image
-storePage number first count bytes = onPage eepromPage number (λ q c. pick (sentPlace eepromPage first count q) (storedCell (get_or bytes q 0)) c)
+unfoldable pub store_page : ℕ → ℕ → ℕ → List ℕ → Image → Image
+store_page number first count bytes = on_page eeprom_page number (λ q c. pick (sent_place eeprom_page first count q) (stored_cell (get_or bytes q 0)) c)
 
 -- an EEPROM write at `off`: the whole page is 00/ff, sent or not (request 3/12, in place of 'the EEPROM bytes sent 00/ff, others unchanged')
-unfoldable pub cutStorePage : ℕ → Image → Image
-cutStorePage number = onPage eepromPage number (λ q c. doubtfulCell)
+unfoldable pub cut_store_page : ℕ → Image → Image
+cut_store_page number = on_page eeprom_page number (λ q c. doubtful_cell)

@@ -1,13 +1,13 @@
 // The kept bytes of one chip, lent as values and masks of doubtful bits: what a cycle makes of them, whole or cut by the supply.
 // An image has its own length. Values and masks of two lengths, and a page number that no page has, are left alone.
 ghost use Rattle.std.specs.Prelude.{◌≡◌, ◌+◌, ◌*◌, ◌≤◌, ◌<◌, length};
-ghost use Rattle.law.specs.Words.{byPlace};
-ghost use Rattle.page.specs.Geometry.{flashPage, eepromPage};
-ghost use Rattle.page.specs.Rolling.{sentPlace};
-ghost use Rattle.image.specs.Image.{image_of, eachPlace, onImage, inPage, onPage};
-ghost use Rattle.image.specs.Images.{keptBytes};
-ghost use Rattle.image.specs.Cycles.{programPage, cutProgramPage, eraseAll, cutEraseAll, storePage, cutStorePage};
-ghost use Rattle.image.specs.Changing.{changedCell, changedPlace};
+ghost use Rattle.law.specs.Words.{by_place};
+ghost use Rattle.page.specs.Geometry.{flash_page, eeprom_page};
+ghost use Rattle.page.specs.Rolling.{sent_place};
+ghost use Rattle.image.specs.Image.{image_of, each_place, on_image, in_page, on_page};
+ghost use Rattle.image.specs.Images.{kept_bytes};
+ghost use Rattle.image.specs.Cycles.{program_page, cut_program_page, erase_all, cut_erase_all, store_page, cut_store_page};
+ghost use Rattle.image.specs.Changing.{changed_cell, changed_place};
 
 use cell::Cell;
 use record::Chip;
@@ -25,7 +25,7 @@ pub const EEPROM_KEPT: usize = page::EEPROM_SIZE as usize;
 
 // What refusals 1 and 11 ask for.
 pub fn kept_bytes(chip: Chip) -> usize
-    ensures { result ≡ keptBytes chip }
+    ensures { result ≡ kept_bytes chip }
 {
     match chip {
         Chip::Flash => FLASH_KEPT,
@@ -44,28 +44,28 @@ enum Change {
 
 // The end of PROGRAM in page `number`: `bytes` is ff where nothing was sent.
 pub fn program_page(values: &mut [u8], masks: &mut [u8], number: usize, bytes: [u8; FLASH_PAGE])
-    ensures { image_of values.new masks.new ≡ programPage number bytes (image_of values.old masks.old) }
+    ensures { image_of values.new masks.new ≡ program_page number bytes (image_of values.old masks.old) }
 {
     change_page(values, masks, Change::Program, number, &bytes);
 }
 
 // PROGRAM in page `number`, cut by the supply.
 pub fn cut_program_page(values: &mut [u8], masks: &mut [u8], number: usize, bytes: [u8; FLASH_PAGE])
-    ensures { image_of values.new masks.new ≡ cutProgramPage number bytes (image_of values.old masks.old) }
+    ensures { image_of values.new masks.new ≡ cut_program_page number bytes (image_of values.old masks.old) }
 {
     change_page(values, masks, Change::CutProgram, number, &bytes);
 }
 
 // The end of an erase.
 pub fn erase(values: &mut [u8], masks: &mut [u8])
-    ensures { image_of values.new masks.new ≡ eraseAll (image_of values.old masks.old) }
+    ensures { image_of values.new masks.new ≡ erase_all (image_of values.old masks.old) }
 {
     fill_both(values, masks, cell::erased());
 }
 
 // An erase, cut by the supply.
 pub fn cut_erase(values: &mut [u8], masks: &mut [u8])
-    ensures { image_of values.new masks.new ≡ cutEraseAll (image_of values.old masks.old) }
+    ensures { image_of values.new masks.new ≡ cut_erase_all (image_of values.old masks.old) }
 {
     fill_both(values, masks, cell::doubtful());
 }
@@ -79,7 +79,7 @@ pub fn store_page(
     count: usize,
     bytes: [u8; EEPROM_PAGE],
 )
-    ensures { image_of values.new masks.new ≡ storePage number first count bytes (image_of values.old masks.old) }
+    ensures { image_of values.new masks.new ≡ store_page number first count bytes (image_of values.old masks.old) }
 {
     let how = Change::Store {
         first: first,
@@ -90,7 +90,7 @@ pub fn store_page(
 
 // An EEPROM write in page `number`, cut by the supply: it leaves the whole page in doubt, so which bytes were sent is not asked.
 pub fn cut_store_page(values: &mut [u8], masks: &mut [u8], number: usize)
-    ensures { image_of values.new masks.new ≡ cutStorePage number (image_of values.old masks.old) }
+    ensures { image_of values.new masks.new ≡ cut_store_page number (image_of values.old masks.old) }
 {
     // No data is put in: only the page's length counts.
     let page = [0u8; EEPROM_PAGE];
@@ -99,8 +99,8 @@ pub fn cut_store_page(values: &mut [u8], masks: &mut [u8], number: usize)
 
 // Was place q of an EEPROM page sent, in the page's own rolling?
 fn sent(first: usize, count: usize, q: usize) -> bool
-    requires { q < flashPage }
-    ensures { result ≡ sentPlace eepromPage first count q }
+    requires { q < flash_page }
+    ensures { result ≡ sent_place eeprom_page first count q }
 {
     if first < EEPROM_PAGE {
         (q + (EEPROM_PAGE - first)) % EEPROM_PAGE < count
@@ -111,8 +111,8 @@ fn sent(first: usize, count: usize, q: usize) -> bool
 
 // The kept byte c at place q of a page whose data there is d, after the cycle.
 fn changed(how: Change, q: usize, c: Cell, d: u8) -> Cell
-    requires { q < flashPage }
-    ensures { result ≡ changedCell how q c d }
+    requires { q < flash_page }
+    ensures { result ≡ changed_cell how q c d }
 {
     match how {
         Change::Program => cell::programmed(c, d),
@@ -130,8 +130,8 @@ fn changed(how: Change, q: usize, c: Cell, d: u8) -> Cell
 
 // A page of an image, if the image has as many masks as values, and that page. The page is as long as its data.
 fn change_page(values: &mut [u8], masks: &mut [u8], how: Change, number: usize, bytes: &[u8])
-    requires { (0 < length bytes.now) × (length bytes.now ≤ flashPage) }
-    ensures { image_of values.new masks.new ≡ onPage (length bytes.now) number (changedPlace how bytes.now) (image_of values.old masks.old) }
+    requires { (0 < length bytes.now) × (length bytes.now ≤ flash_page) }
+    ensures { image_of values.new masks.new ≡ on_page (length bytes.now) number (changed_place how bytes.now) (image_of values.old masks.old) }
 {
     if values.len() / bytes.len() <= number {
         return;
@@ -144,8 +144,8 @@ fn change_page(values: &mut [u8], masks: &mut [u8], how: Change, number: usize, 
 
 // The places of the page, one after the other.
 fn change_places(values: &mut [u8], masks: &mut [u8], how: Change, number: usize, bytes: &[u8])
-    requires { (length masks.old ≡ length values.old) × (0 < length bytes.now) × (length bytes.now ≤ flashPage) × (length bytes.now * number + length bytes.now ≤ length values.old) }
-    ensures { image_of values.new masks.new ≡ eachPlace (inPage (length bytes.now) number (changedPlace how bytes.now)) (image_of values.old masks.old) }
+    requires { (length masks.old ≡ length values.old) × (0 < length bytes.now) × (length bytes.now ≤ flash_page) × (length bytes.now * number + length bytes.now ≤ length values.old) }
+    ensures { image_of values.new masks.new ≡ each_place (in_page (length bytes.now) number (changed_place how bytes.now)) (image_of values.old masks.old) }
 {
     let base = bytes.len() * number;
     let mut q: usize = 0;
@@ -164,7 +164,7 @@ fn change_places(values: &mut [u8], masks: &mut [u8], how: Change, number: usize
 
 // Every kept byte of an image with as many masks as values is c.
 fn fill_both(values: &mut [u8], masks: &mut [u8], c: Cell)
-    ensures { image_of values.new masks.new ≡ onImage (λ k b. c) (image_of values.old masks.old) }
+    ensures { image_of values.new masks.new ≡ on_image (λ k b. c) (image_of values.old masks.old) }
 {
     if masks.len() != values.len() {
         return;
@@ -175,7 +175,7 @@ fn fill_both(values: &mut [u8], masks: &mut [u8], c: Cell)
 
 // All of s is b.
 fn fill(s: &mut [u8], b: u8)
-    ensures { s.new ≡ byPlace (λ k x. b) 0 s.old }
+    ensures { s.new ≡ by_place (λ k x. b) 0 s.old }
 {
     let mut i = 0;
     while i < s.len() {

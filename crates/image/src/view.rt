@@ -1,13 +1,13 @@
 // The page view: a page of the flash image or of the EEPROM image as a part of it, not a copy.
 ghost use Rattle.std.specs.Prelude.{◌≡◌};
-ghost use Rattle.image.specs.Images.{perChip, pageSize};
-ghost use Rattle.image.specs.View.{canShow, viewPlace, viewLength, Shows};
+ghost use Rattle.image.specs.Images.{per_chip, page_size};
+ghost use Rattle.image.specs.View.{can_show, view_place, view_length, Shows};
 
 use record::Chip;
 
 // Page `number` of the image asked for. The empty part is refusal 11: no page is empty.
 pub fn view<'a>(flash: &'a [u8], eeprom: &'a [u8], chip: Chip, number: usize) -> &'a [u8]
-    ensures { Shows (perChip flash.entry eeprom.entry) chip number result }
+    ensures { Shows (per_chip flash.entry eeprom.entry) chip number result }
 {
     let from = view_place(flash.len(), eeprom.len(), chip, number);
     let to = from + view_length(flash.len(), eeprom.len(), chip, number);
@@ -19,7 +19,7 @@ pub fn view<'a>(flash: &'a [u8], eeprom: &'a [u8], chip: Chip, number: usize) ->
 
 // For a caller that can be given no part: where in its image the page stands, by the lengths of the two images.
 pub fn view_place(flash: usize, eeprom: usize, chip: Chip, number: usize) -> usize
-    ensures { result ≡ viewPlace (perChip flash eeprom) chip number }
+    ensures { result ≡ view_place (per_chip flash eeprom) chip number }
 {
     if can_show(flash, eeprom, chip, number) {
         page_size(chip) * number
@@ -30,7 +30,7 @@ pub fn view_place(flash: usize, eeprom: usize, chip: Chip, number: usize) -> usi
 
 // And how long it is: 0 is refusal 11.
 pub fn view_length(flash: usize, eeprom: usize, chip: Chip, number: usize) -> usize
-    ensures { result ≡ viewLength (perChip flash eeprom) chip number }
+    ensures { result ≡ view_length (per_chip flash eeprom) chip number }
 {
     if can_show(flash, eeprom, chip, number) {
         page_size(chip)
@@ -41,7 +41,7 @@ pub fn view_length(flash: usize, eeprom: usize, chip: Chip, number: usize) -> us
 
 // Both images have to be whole, whichever is asked for.
 fn can_show(flash: usize, eeprom: usize, chip: Chip, number: usize) -> bool
-    ensures { result ≡ canShow (perChip flash eeprom) chip number }
+    ensures { result ≡ can_show (per_chip flash eeprom) chip number }
 {
     if flash != crate::kept_bytes(Chip::Flash) {
         return false;
@@ -53,7 +53,7 @@ fn can_show(flash: usize, eeprom: usize, chip: Chip, number: usize) -> bool
 }
 
 fn page_size(chip: Chip) -> usize
-    ensures { result ≡ pageSize chip }
+    ensures { result ≡ page_size chip }
 {
     match chip {
         Chip::Flash => page::FLASH_PAGE as usize,

@@ -15,18 +15,18 @@ use Rattle.record.specs.declared.LevelsAnswer.{LevelsAnswer}
 use Rattle.record.specs.declared.LevelsAnswer.TheVariants.{BadLevel}
 use Rattle.field.specs.Reads.{Stands}
 use Rattle.field.proofs.Reading.{Got}
-use Rattle.line.specs.Boards.{spelledBoard}
+use Rattle.line.specs.Boards.{spelled_board}
 use Rattle.text.specs.Texts.{Readable}
-use Rattle.text.proofs.Theorems.{first-place}
+use Rattle.text.proofs.Theorems.{first_place_lem}
 use Rattle.level.specs.declared.Level.{Level}
-use Rattle.level.specs.Spelled.{spelledLevel, LevelOk}
-use Rattle.level.proofs.Theorems.{level-length}
+use Rattle.level.specs.Spelled.{spelled_level, LevelOk}
+use Rattle.level.proofs.Theorems.{level_length}
 use Rattle.capture.specs.declared.Fault.{Fault}
 use Rattle.capture.specs.declared.Fault.TheVariants.{Nothing, Bad}
 use Rattle.capture.specs.Taken.{taken_of, stamped}
-use Rattle.capture.specs.Captures.{spelledLevels, Before, none, line, last_of, firstFault, laterFault, faultOf, Faultless, Begins, noLevel, faulty}
+use Rattle.capture.specs.Captures.{spelled_levels, Before, none, line, last_of, first_fault, later_fault, fault_of, Faultless, Begins, no_level, faulty}
 use Rattle.capture.specs.OneByOne.{records}
-use Rattle.capture.proofs.OneMore.{last_snoc, length-snoc, begins-none, begins-snoc, begins-whole}
+use Rattle.capture.proofs.OneMore.{last_snoc, length_snoc, begins_none, begins_snoc, begins_whole}
 use Rattle.capture.proofs.Decoding.{not_back}
 use Rattle.judge.specs.declared.Reach.{Reach}
 use Rattle.judge.specs.declared.CheckedLevels.{CheckedLevels}
@@ -36,22 +36,22 @@ use Rattle.judge.specs.Checking.{Ahead, Reaches, LevelsChecked, usable, bad, Che
 pub record Upto (ts : List Record) (text : List ℕ) (a last : Level) (at number : ℕ) : Type 0 where
   pub more : List Level
   pub begins : Begins ts text (a ∷ more)
-  pub last-is : last_of none (a ∷ more) ≡ line last
-  pub place : at ≡ length (spelledLevels (a ∷ more))
+  pub last_is : last_of none (a ∷ more) ≡ line last
+  pub place : at ≡ length (spelled_levels (a ∷ more))
   pub count : number ≡ length (a ∷ more) + 1
 
 -- and the records taken whose stamps can still come
 pub record Sofar (levels trace : List ℕ) (first : ℕ) (a : Level) (at : ℕ) (last : Level) (number : ℕ) (place : Reach) : Type 0 where
   pub small : number ≤ at
-  pub so : (b : Board) (rs : List Record) → Readable trace b rs → first ≡ length (spelledBoard b) →
+  pub so : (b : Board) (rs : List Record) → Readable trace b rs → first ≡ length (spelled_board b) →
       Upto (taken_of rs) levels a last at number × Ahead trace (taken_of rs) last.stamp place.at place.free
 
 -- before the first line, all of them
-begun : {trace : List ℕ} {first : ℕ} {b : Board} {rs : List Record} → Readable trace b rs → first ≡ length (spelledBoard b) → Ahead trace (taken_of rs) 0 first 0
+begun : {trace : List ℕ} {first : ℕ} {b : Board} {rs : List Record} → Readable trace b rs → first ≡ length (spelled_board b) → Ahead trace (taken_of rs) 0 first 0
 unfolding records
 begun {trace} {rs = rs} q e = record {
   rest = rs;
-  from = record { fits = q.fits; is = ap (λ (k : ℕ). drop k trace) e ∙ first-place q };
+  from = record { fits = q.fits; is = ap (λ (k : ℕ). drop k trace) e ∙ first_place_lem q };
   rising = q.acceptable.never_back;
   same = λ u h. refl;
   none = λ u h. absurd (omega arith);
@@ -59,32 +59,32 @@ begun {trace} {rs = rs} q e = record {
 
 -- ---- the first line
 module _ {levels trace : List ℕ} {first : ℕ} where
-  pub first-none : ((l : Level) → LevelOk l → Stands levels 0 (spelledLevel l) → ⊥) → ChecksLevels levels trace first (CheckedLevels.Bad BadLevel 1)
-  unfolding spelledLevels
-  first-none n = record { checks = λ b rs q e. bad BadLevel 1 (noLevel [] (begins-none (taken_of rs) levels) (inl refl) n) }
+  pub first_none : ((l : Level) → LevelOk l → Stands levels 0 (spelled_level l) → ⊥) → ChecksLevels levels trace first (CheckedLevels.Bad BadLevel 1)
+  unfolding spelled_levels
+  first_none n = record { checks = λ b rs q e. bad BadLevel 1 (no_level [] (begins_none (taken_of rs) levels) (inl refl) n) }
 
-  module _ {l : Level} {p : ℕ} {r : Reach} {fault : Fault} (g : Got spelledLevel LevelOk levels 0 l p) (q : Reaches trace first 0 l.stamp r) (f : fault ≡ firstFault l r.hit) where
-    first-fault-is : {b : Board} {rs : List Record} → Readable trace b rs → first ≡ length (spelledBoard b) → faultOf (taken_of rs) none l ≡ fault
-    unfolding faultOf
-    first-fault-is {rs = rs} z e = sym (f ∙ ap (firstFault l) (q.reaches (taken_of rs) 0 (omega arith) (begun z e)).0)
+  module _ {l : Level} {p : ℕ} {r : Reach} {fault : Fault} (g : Got spelled_level LevelOk levels 0 l p) (q : Reaches trace first 0 l.stamp r) (f : fault ≡ first_fault l r.hit) where
+    first_fault_is : {b : Board} {rs : List Record} → Readable trace b rs → first ≡ length (spelled_board b) → fault_of (taken_of rs) none l ≡ fault
+    unfolding fault_of
+    first_fault_is {rs = rs} z e = sym (f ∙ ap (first_fault l) (q.reaches (taken_of rs) 0 (omega arith) (begun z e)).0)
 
-    pub first-bad : {a : LevelsAnswer} → fault ≡ Bad a → ChecksLevels levels trace first (CheckedLevels.Bad a 1)
-    unfolding spelledLevels last_of
-    first-bad {a} n = record { checks = λ b rs z e. bad a 1 (faulty [] l a (begins-none (taken_of rs) levels) g.ok g.stands (first-fault-is z e ∙ n)) }
+    pub first_bad_lem : {a : LevelsAnswer} → fault ≡ Bad a → ChecksLevels levels trace first (CheckedLevels.Bad a 1)
+    unfolding spelled_levels last_of
+    first_bad_lem {a} n = record { checks = λ b rs z e. bad a 1 (faulty [] l a (begins_none (taken_of rs) levels) g.ok g.stands (first_fault_is z e ∙ n)) }
 
     pub first_good : fault ≡ Nothing → Sofar levels trace first l p l 2 r
-    unfolding spelledLevels last_of Faultless
+    unfolding spelled_levels last_of Faultless
     first_good n = record {
-      small = omega (arith, g.next, level-length l);
+      small = omega (arith, g.next, level_length l);
       so = λ b rs z e. (
         record {
           more = [];
           begins = record {
-            faultless = (g.ok, first-fault-is z e ∙ n, tt);
-            stands = subst (λ (x : List ℕ). Stands levels 0 x) (sym (append-nil (spelledLevel l))) g.stands;
+            faultless = (g.ok, first_fault_is z e ∙ n, tt);
+            stands = subst (λ (x : List ℕ). Stands levels 0 x) (sym (append-nil (spelled_level l))) g.stands;
           };
-          last-is = refl;
-          place = g.next ∙ zero-add (length (spelledLevel l)) ∙ ap length (sym (append-nil (spelledLevel l)));
+          last_is = refl;
+          place = g.next ∙ zero-add (length (spelled_level l)) ∙ ap length (sym (append-nil (spelled_level l)));
           count = refl;
         },
         (q.reaches (taken_of rs) 0 (omega arith) (begun z e)).1,
@@ -93,64 +93,64 @@ module _ {levels trace : List ℕ} {first : ℕ} where
 
   -- ---- a later line
   module _ {a last : Level} {at number : ℕ} {place : Reach} (s : Sofar levels trace first a at last number place) where
-    pub later-none : at < length levels → ((l : Level) → LevelOk l → Stands levels at (spelledLevel l) → ⊥) → ChecksLevels levels trace first (CheckedLevels.Bad BadLevel number)
-    later-none h n = record {
+    pub later_none : at < length levels → ((l : Level) → LevelOk l → Stands levels at (spelled_level l) → ⊥) → ChecksLevels levels trace first (CheckedLevels.Bad BadLevel number)
+    later_none h n = record {
       checks = λ b rs z e.
           let u = (s.so b rs z e).0 in
           subst (λ (k : ℕ). LevelsChecked (taken_of rs) levels (CheckedLevels.Bad BadLevel k)) (sym u.count)
-          (bad BadLevel _ (noLevel (a ∷ u.more) u.begins (inr (omega (arith, u.place))) (λ l o t. n l o (subst (λ (k : ℕ). Stands levels k (spelledLevel l)) (sym u.place) t))));
+          (bad BadLevel _ (no_level (a ∷ u.more) u.begins (inr (omega (arith, u.place))) (λ l o t. n l o (subst (λ (k : ℕ). Stands levels k (spelled_level l)) (sym u.place) t))));
     }
 
-    module _ {l : Level} {p : ℕ} {r : Reach} {fault : Fault} (g : Got spelledLevel LevelOk levels at l p) (q : Reaches trace place.at place.free l.stamp r) (f : fault ≡ laterFault last l r.hit) where
-      module _ {b : Board} {rs : List Record} (z : Readable trace b rs) (e : first ≡ length (spelledBoard b)) where
+    module _ {l : Level} {p : ℕ} {r : Reach} {fault : Fault} (g : Got spelled_level LevelOk levels at l p) (q : Reaches trace place.at place.free l.stamp r) (f : fault ≡ later_fault last l r.hit) where
+      module _ {b : Board} {rs : List Record} (z : Readable trace b rs) (e : first ≡ length (spelled_board b)) where
         upto : Upto (taken_of rs) levels a last at number
         upto = (s.so b rs z e).0
 
-        there : Stands levels (length (spelledLevels (a ∷ upto.more))) (spelledLevel l)
-        there = subst (λ (k : ℕ). Stands levels k (spelledLevel l)) upto.place g.stands
+        there : Stands levels (length (spelled_levels (a ∷ upto.more))) (spelled_level l)
+        there = subst (λ (k : ℕ). Stands levels k (spelled_level l)) upto.place g.stands
 
         -- where the stamp does not fall; where it does, nothing else is asked
         asked : last.stamp ≤ l.stamp → (r.hit ≡ stamped (taken_of rs) l.stamp) × Ahead trace (taken_of rs) l.stamp r.at r.free
         asked le = q.reaches (taken_of rs) last.stamp le (s.so b rs z e).1
 
-        behind-last : faultOf (taken_of rs) (line last) l ≡ fault
-        unfolding faultOf
-        behind-last =
-            split (ltb l.stamp last.stamp) (λ t. rw t) (λ t. ap (laterFault last l) (sym (asked (ltb-false l.stamp last.stamp t)).0)) ∙ sym f
+        behind_last : fault_of (taken_of rs) (line last) l ≡ fault
+        unfolding fault_of
+        behind_last =
+            split (ltb l.stamp last.stamp) (λ t. rw t) (λ t. ap (later_fault last l) (sym (asked (ltb-false l.stamp last.stamp t)).0)) ∙ sym f
 
-        fault-is : faultOf (taken_of rs) (last_of none (a ∷ upto.more)) l ≡ fault
-        fault-is = ap (λ (x : Before). faultOf (taken_of rs) x l) upto.last-is ∙ behind-last
+        fault_is : fault_of (taken_of rs) (last_of none (a ∷ upto.more)) l ≡ fault
+        fault_is = ap (λ (x : Before). fault_of (taken_of rs) x l) upto.last_is ∙ behind_last
 
-      pub later-bad : {n : LevelsAnswer} → fault ≡ Bad n → ChecksLevels levels trace first (CheckedLevels.Bad n number)
-      later-bad {n} h = record {
+      pub later_bad : {n : LevelsAnswer} → fault ≡ Bad n → ChecksLevels levels trace first (CheckedLevels.Bad n number)
+      later_bad {n} h = record {
         checks = λ b rs z e.
             let u = upto z e in
             subst (λ (k : ℕ). LevelsChecked (taken_of rs) levels (CheckedLevels.Bad n k)) (sym u.count)
-            (bad n _ (faulty (a ∷ u.more) l n u.begins g.ok (there z e) (fault-is z e ∙ h)));
+            (bad n _ (faulty (a ∷ u.more) l n u.begins g.ok (there z e) (fault_is z e ∙ h)));
       }
 
-      pub later-good : fault ≡ Nothing → Sofar levels trace first a p l (number + 1) r
-      later-good n = record {
-        small = omega (arith, s.small, g.next, level-length l);
+      pub later_good : fault ≡ Nothing → Sofar levels trace first a p l (number + 1) r
+      later_good n = record {
+        small = omega (arith, s.small, g.next, level_length l);
         so = λ b rs z e.
             let u = upto z e in
             let ls = a ∷ u.more in (
               record {
                 more = u.more ++ (l ∷ []);
-                begins = begins-snoc ls u.begins l g.ok (there z e) (fault-is z e ∙ n);
-                last-is = last_snoc none ls l;
-                place = omega (arith, g.next, u.place, length-snoc ls l);
+                begins = begins_snoc ls u.begins l g.ok (there z e) (fault_is z e ∙ n);
+                last_is = last_snoc none ls l;
+                place = omega (arith, g.next, u.place, length_snoc ls l);
                 count = omega (arith, u.count, length-append u.more (l ∷ []));
               },
-              (asked z e (not_back (taken_of rs) last l (behind-last z e ∙ n))).1,
+              (asked z e (not_back (taken_of rs) last l (behind_last z e ∙ n))).1,
             );
       }
 
     -- no line is left
-    pub check-end : {p : ℕ} → Got spelledLevel LevelOk levels 0 a p → length levels ≤ at → ChecksLevels levels trace first (CheckedLevels.Usable a p)
-    check-end {p} g h = record {
+    pub check_end : {p : ℕ} → Got spelled_level LevelOk levels 0 a p → length levels ≤ at → ChecksLevels levels trace first (CheckedLevels.Usable a p)
+    check_end {p} g h = record {
       checks = λ b rs z e.
           let u = (s.so b rs z e).0 in
-          subst (λ (k : ℕ). LevelsChecked (taken_of rs) levels (CheckedLevels.Usable a k)) (sym (g.next ∙ zero-add (length (spelledLevel a))))
-          (usable a u.more (begins-whole (a ∷ u.more) u.begins (omega arith) (omega (arith, u.place))));
+          subst (λ (k : ℕ). LevelsChecked (taken_of rs) levels (CheckedLevels.Usable a k)) (sym (g.next ∙ zero-add (length (spelled_level a))))
+          (usable a u.more (begins_whole (a ∷ u.more) u.begins (omega arith) (omega (arith, u.place))));
     }

@@ -16,9 +16,9 @@ use Rattle.field.proofs.Reading.{Got}
 use Rattle.line.specs.Records.{spelled, RecordOk}
 use Rattle.capture.specs.Taken.{taken, taken_of, stamped}
 use Rattle.capture.specs.OneByOne.{records}
-use Rattle.capture.proofs.OneByOne.{some-record, took, not_none, at-end}
+use Rattle.capture.proofs.OneByOne.{some_record, took, not_none, at_end}
 use Rattle.judge.specs.declared.Reach.{Reach}
-use Rattle.judge.specs.Checking.{reachedBy, Ahead, Reaches}
+use Rattle.judge.specs.Checking.{reached_by, Ahead, Reaches}
 
 -- ---- stamps
 none_has : (t : ℕ) (l : List Record) → All (λ (r : Record). t < r.stamp) l → stamped l t ≡ false
@@ -43,16 +43,16 @@ module _ (r : Record) (l : List Record) (up : All (λ (x : Record). r.stamp ≤ 
   none_below : (u : ℕ) → u < r.stamp → stamped (r ∷ l) u ≡ false
   none_below u h = past u r l (λ e. omega arith) ∙ none_has u l (all_map _ _ (λ x q. omega arith) l up)
 
-  head-only : (t : ℕ) → t ≤ r.stamp → eqb r.stamp t ≡ stamped (r ∷ l) t
+  head_only : (t : ℕ) → t ≤ r.stamp → eqb r.stamp t ≡ stamped (r ∷ l) t
   unfolding stamped
-  head-only t h =
+  head_only t h =
       split (eqb r.stamp t) (λ e. rw e)
       (λ e. let n = eqb-false r.stamp t e in e ∙ sym (none_below t (apart t r.stamp h n)))
     where
       apart : (a b : ℕ) → a ≤ b → (b ≡ a → ⊥) → a < b
       apart a b le ne = omega arith
 
-passed_over : (t u : ℕ) (r : Record) (rs : List Record) → reachedBy r t ≡ false → t ≤ u → stamped (taken_of (r ∷ rs)) u ≡ stamped (taken_of rs) u
+passed_over : (t u : ℕ) (r : Record) (rs : List Record) → reached_by r t ≡ false → t ≤ u → stamped (taken_of (r ∷ rs)) u ≡ stamped (taken_of rs) u
 passed_over t u r rs h k =
     split (taken r.event)
     (λ e.
@@ -68,33 +68,33 @@ later : {trace : List ℕ} {ts : List Record} {s t at free : ℕ} → s ≤ t �
 later h a = record { rest = a.rest; from = a.from; rising = a.rising; same = λ u k. a.same u (omega arith); none = a.none }
 
 module _ {trace : List ℕ} {from t : ℕ} where
-  pub reach-start : Still trace from t from
-  reach-start = record { still = λ ts s h a. later h a }
+  pub reach_start : Still trace from t from
+  reach_start = record { still = λ ts s h a. later h a }
 
   module _ {at : ℕ} (s : Still trace from t at) where
-    pub reach-none : at < length trace → ((r : Record) → RecordOk r → Stands trace at (spelled r) → ⊥) → Reaches trace from 0 t (record { at = at; hit = false; free = 0 })
+    pub reach_none : at < length trace → ((r : Record) → RecordOk r → Stands trace at (spelled r) → ⊥) → Reaches trace from 0 t (record { at = at; hit = false; free = 0 })
     unfolding records
-    reach-none h n = record { reaches = λ ts u le a. let z = s.still ts u le a in absurd (not_none z.rest z.from h n) }
+    reach_none h n = record { reaches = λ ts u le a. let z = s.still ts u le a in absurd (not_none z.rest z.from h n) }
 
-    pub reach-end : length trace ≤ at → Reaches trace from 0 t (record { at = at; hit = false; free = 0 })
+    pub reach_end : length trace ≤ at → Reaches trace from 0 t (record { at = at; hit = false; free = 0 })
     unfolding filter stamped
-    reach-end h = record {
+    reach_end h = record {
       reaches = λ ts u le a.
           let z = s.still ts u le a in
-          (sym (z.same t (omega arith) ∙ ap (λ (l : List Record). stamped (taken_of l) t) (at-end some-record z.rest z.from h)), z);
+          (sym (z.same t (omega arith) ∙ ap (λ (l : List Record). stamped (taken_of l) t) (at_end some_record z.rest z.from h)), z);
     }
 
     module _ {r : Record} {p : ℕ} (g : Got spelled RecordOk trace at r p) where
-      pub reach-found : reachedBy r t ≡ true → Reaches trace from 0 t (record { at = at; hit = eqb r.stamp t; free = r.stamp })
+      pub reach_found : reached_by r t ≡ true → Reaches trace from 0 t (record { at = at; hit = eqb r.stamp t; free = r.stamp })
       unfolding Rising records
-      reach-found h = record {
+      reach_found h = record {
         reaches = λ ts u le a.
             let z = s.still ts u le a in
-            let k = took some-record z.rest z.from g in
+            let k = took some_record z.rest z.from g in
             let q = both (taken r.event) (leb t r.stamp) h in
             let up = all_filter _ (λ (x : Record). taken x.event) k.0 (subst (Rising (λ (x : Record). x.stamp)) k.2 z.rising).0 in
             let is : taken_of z.rest ≡ r ∷ taken_of k.0 = ap taken_of k.2 ∙ taken_in r k.0 q.0 in (
-              head-only r (taken_of k.0) up t (leb-true t r.stamp q.1) ∙ sym (z.same t (omega arith) ∙ ap (λ (l : List Record). stamped l t) is),
+              head_only r (taken_of k.0) up t (leb-true t r.stamp q.1) ∙ sym (z.same t (omega arith) ∙ ap (λ (l : List Record). stamped l t) is),
               record {
                 rest = z.rest;
                 from = z.from;
@@ -105,12 +105,12 @@ module _ {trace : List ℕ} {from t : ℕ} where
             );
       }
 
-      pub reach-next : reachedBy r t ≡ false → Still trace from t p
+      pub reach_next : reached_by r t ≡ false → Still trace from t p
       unfolding Rising records
-      reach-next h = record {
+      reach_next h = record {
         still = λ ts u le a.
             let z = s.still ts u le a in
-            let k = took some-record z.rest z.from g in
+            let k = took some_record z.rest z.from g in
             record {
               rest = k.0;
               from = k.1;
@@ -122,11 +122,11 @@ module _ {trace : List ℕ} {from t : ℕ} where
 
 -- ---- from where an earlier search stopped
 module _ {trace : List ℕ} {at free t : ℕ} where
-  pub reach-below : t < free → Reaches trace at free t (record { at = at; hit = false; free = free })
-  reach-below h = record { reaches = λ ts s le a. (sym (a.same t le ∙ a.none t h), later le a) }
+  pub reach_below : t < free → Reaches trace at free t (record { at = at; hit = false; free = free })
+  reach_below h = record { reaches = λ ts s le a. (sym (a.same t le ∙ a.none t h), later le a) }
 
-  pub reach-further : {r : Reach} → Reaches trace at 0 t r → Reaches trace at free t r
-  reach-further q = record {
+  pub reach_further : {r : Reach} → Reaches trace at 0 t r → Reaches trace at free t r
+  reach_further q = record {
     reaches = λ ts s le a.
         q.reaches ts s le (record { rest = a.rest; from = a.from; rising = a.rising; same = a.same; none = λ v lt. absurd (omega arith) });
   }

@@ -7,10 +7,10 @@ use borrow.Author.Tests.{ltb-false}
 use Rattle.record.specs.declared.Board.{Board}
 use Rattle.record.specs.declared.Record.{Record}
 use Rattle.field.proofs.Answers.{zero_one}
-use Rattle.line.specs.Boards.{spelledBoard}
-use Rattle.text.specs.Texts.{textLimit, Readable}
+use Rattle.line.specs.Boards.{spelled_board}
+use Rattle.text.specs.Texts.{text_limit, Readable}
 use Rattle.level.specs.declared.Level.{Level}
-use Rattle.level.specs.Spelled.{spelledLevel}
+use Rattle.level.specs.Spelled.{spelled_level}
 use Rattle.capture.specs.Taken.{taken_of}
 use Rattle.capture.specs.Captures.{Captures}
 use Rattle.capture.specs.Merge.{Judgement, refused, merged, Judges, both, Merged}
@@ -18,15 +18,15 @@ use Rattle.capture.specs.Most.{most}
 use Rattle.capture.proofs.Few.{few}
 use Rattle.capture.proofs.OneJudgement.{merged_some}
 use Rattle.judge.specs.declared.Judged.{Judged}
-use Rattle.judge.specs.Judging.{Judging, is_refused, isBoth}
+use Rattle.judge.specs.Judging.{Judging, is_refused, is_both}
 
-pub refused-by : {levels trace : List ℕ} {j : Judged} → Judging levels trace j → (n k f : ℕ) → j ≡ Judged.Refused n k f → Judges levels trace (refused n k f)
-refused-by {levels} {trace} (is_refused n k f h) n' k' f' e =
+pub refused_by : {levels trace : List ℕ} {j : Judged} → Judging levels trace j → (n k f : ℕ) → j ≡ Judged.Refused n k f → Judges levels trace (refused n k f)
+refused_by {levels} {trace} (is_refused n k f h) n' k' f' e =
     let a : n ≡ n' = cc in
     let b : k ≡ k' = cc in
     let c : f ≡ f' = cc in
     subst (λ (z : Judgement). Judges levels trace z) (λ i. refused (a i) (b i) (c i)) h
-refused-by (isBoth b rs a ls t q s c) n k f e = absurd (zero_one (cc))
+refused_by (is_both b rs a ls t q s c) n k f e = absurd (zero_one (cc))
 
 -- both texts can be used: the places from which they are read, and the records of the merged trace, no more than the most
 pub record Usable (levels trace : List ℕ) (b : Board) (first : ℕ) (a : Level) (at : ℕ) : Type 0 where
@@ -34,8 +34,8 @@ pub record Usable (levels trace : List ℕ) (b : Board) (first : ℕ) (a : Level
   pub ls : List Level
   pub readable : Readable trace b rs
   pub captures : Captures (taken_of rs) levels (a ∷ ls)
-  pub place : first ≡ length (spelledBoard b)
-  pub behind : at ≡ length (spelledLevel a)
+  pub place : first ≡ length (spelled_board b)
+  pub behind : at ≡ length (spelled_level a)
   pub m : List Record
   pub in_order : Merged (a ∷ ls) rs m
   pub judges : Judges levels trace (merged b m)
@@ -43,11 +43,11 @@ pub record Usable (levels trace : List ℕ) (b : Board) (first : ℕ) (a : Level
 
 pub both_by : {levels trace : List ℕ} {j : Judged} → Judging levels trace j → (b : Board) (first : ℕ) (a : Level) (at : ℕ) → j ≡ Judged.Both b first a at → Usable levels trace b first a at
 both_by (is_refused n k f h) b first a at e = absurd (zero_one (cc))
-both_by {levels} {trace} (isBoth b rs a ls t q s c) b' first a' at e =
+both_by {levels} {trace} (is_both b rs a ls t q s c) b' first a' at e =
     let w : b ≡ b' = cc in
-    let x : length (spelledBoard b) ≡ first = cc in
+    let x : length (spelled_board b) ≡ first = cc in
     let y : a ≡ a' = cc in
-    let z : length (spelledLevel a) ≡ at = cc in
+    let z : length (spelled_level a) ≡ at = cc in
     let k = merged_some (a ∷ ls) rs in
     subst (λ (p : Board). Usable levels trace p first a' at) w
     (subst (λ (p : Level). Usable levels trace b first p at) y
@@ -61,5 +61,5 @@ both_by {levels} {trace} (isBoth b rs a ls t q s c) b' first a' at e =
       m = k.0;
       in_order = k.1;
       judges = both b rs (a ∷ ls) k.0 t q s c k.1;
-      small = few a ls k.0 q (ltb-false textLimit (length trace) t) c (ltb-false textLimit (length levels) s) k.1;
+      small = few a ls k.0 q (ltb-false text_limit (length trace) t) c (ltb-false text_limit (length levels) s) k.1;
     }))

@@ -4,18 +4,18 @@ use Rattle.law.specs.Words.{pick, Rising}
 use Rattle.record.specs.declared.Board.{Board}
 use Rattle.record.specs.declared.Record.{Record}
 use Rattle.record.specs.declared.LevelsAnswer.{LevelsAnswer}
-use Rattle.line.specs.Boards.{spelledBoard}
+use Rattle.line.specs.Boards.{spelled_board}
 use Rattle.text.specs.Texts.{Readable}
 use Rattle.level.specs.declared.Level.{Level}
-use Rattle.level.specs.Spelled.{spelledLevel}
+use Rattle.level.specs.Spelled.{spelled_level}
 use Rattle.capture.specs.Taken.{taken, taken_of, stamped}
 use Rattle.capture.specs.Captures.{Captures, BadCapture}
 use Rattle.capture.specs.OneByOne.{From, records}
 use Rattle.judge.specs.declared.Reach.{Reach}
 use Rattle.judge.specs.declared.CheckedLevels.{CheckedLevels}
 
-abbrev pub reachedBy : Record → ℕ → Bool
-reachedBy r t = pick (taken r.event) (leb t r.stamp) false
+abbrev pub reached_by : Record → ℕ → Bool
+reached_by r t = pick (taken r.event) (leb t r.stamp) false
 
 -- From a place on the trace is records whose stamps rise: of those taken, the stamps from t on are those of ts, and none is below `free`.
 pub record Ahead (trace : List ℕ) (ts : List Record) (t at free : ℕ) : Type 0 where
@@ -31,8 +31,8 @@ pub record Reaches (trace : List ℕ) (from free t : ℕ) (r : Reach) : Type 0 w
 
 -- what the check of a level text says, where ts are the records taken
 pub data LevelsChecked (ts : List Record) (text : List ℕ) : CheckedLevels → Type 0 where
-  usable : (a : Level) (ls : List Level) → Captures ts text (a ∷ ls) → LevelsChecked ts text (CheckedLevels.Usable a (length (spelledLevel a)))
+  usable : (a : Level) (ls : List Level) → Captures ts text (a ∷ ls) → LevelsChecked ts text (CheckedLevels.Usable a (length (spelled_level a)))
   bad : (a : LevelsAnswer) (n : ℕ) → BadCapture ts text a n → LevelsChecked ts text (CheckedLevels.Bad a n)
 
 pub record ChecksLevels (levels trace : List ℕ) (first : ℕ) (r : CheckedLevels) : Type 0 where
-  pub checks : (b : Board) (rs : List Record) → Readable trace b rs → first ≡ length (spelledBoard b) → LevelsChecked (taken_of rs) levels r
+  pub checks : (b : Board) (rs : List Record) → Readable trace b rs → first ≡ length (spelled_board b) → LevelsChecked (taken_of rs) levels r

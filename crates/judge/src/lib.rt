@@ -1,7 +1,7 @@
 // Both texts are judged before anything is written or played: the logger's trace whole, then the level text's length, then its first bad line (document 02, request 4/12).
 ghost use Rattle.std.specs.Prelude.{◌≡◌};
-ghost use Rattle.capture.specs.Captures.{firstFault, laterFault};
-ghost use Rattle.judge.specs.Checking.{reachedBy, Reaches, ChecksLevels};
+ghost use Rattle.capture.specs.Captures.{first_fault, later_fault};
+ghost use Rattle.judge.specs.Checking.{reached_by, Reaches, ChecksLevels};
 ghost use Rattle.judge.specs.Judging.{Judging};
 
 use capture::Fault;
@@ -34,7 +34,7 @@ pub enum Judged {
 }
 
 fn reached_by(rec: Record, t: u32) -> bool
-    ensures { result ≡ reachedBy rec t }
+    ensures { result ≡ reached_by rec t }
 {
     let event = rec.event;
     if capture::is_taken(event) {
@@ -88,7 +88,7 @@ fn reach_on(trace: &[u8], last: Reach, t: u32) -> Reach
 
 // What is wrong with the first line; hit: a record that is taken has its stamp.
 fn first_fault(l: Level, hit: bool) -> Fault
-    ensures { result ≡ firstFault l hit }
+    ensures { result ≡ first_fault l hit }
 {
     if level::rests(l) {
         if hit {
@@ -101,7 +101,7 @@ fn first_fault(l: Level, hit: bool) -> Fault
 
 // What is wrong with the line l behind the line a: '12 first on one line'.
 fn later_fault(a: Level, l: Level, hit: bool) -> Fault
-    ensures { result ≡ laterFault a l hit }
+    ensures { result ≡ later_fault a l hit }
 {
     let misplaced = Fault::Bad(LevelsAnswer::BadLevel);
     if l.stamp < a.stamp {

@@ -7,13 +7,13 @@ use Rattle.law.specs.Words.{pick}
 pub via : {A : Type 0} {r s b : A} → r ≡ s → r ≡ b → s ≡ b
 via e t = sym e ∙ t
 
-isTrue : Bool → Type 0
-isTrue true = Unit {0}
-isTrue false = ⊥
+is_true : Bool → Type 0
+is_true true = Unit {0}
+is_true false = ⊥
 
-pub true-not-false : true ≡ false → ⊥
-unfolding isTrue
-true-not-false e = subst isTrue e tt
+pub true_not_false : true ≡ false → ⊥
+unfolding is_true
+true_not_false e = subst is_true e tt
 
 -- a proof by a test
 pub split : {A : Type 0} (t : Bool) → (t ≡ true → A) → (t ≡ false → A) → A
@@ -21,19 +21,19 @@ split true f g = f refl
 split false f g = g refl
 
 -- what holds of both holds of the one that is picked
-pub of-both : {A : Type 0} (P : A → Type 0) (t : Bool) (a b : A) → P a → P b → P (pick t a b)
-of-both P true a b p q = p
-of-both P false a b p q = q
+pub of_both : {A : Type 0} (P : A → Type 0) (t : Bool) (a b : A) → P a → P b → P (pick t a b)
+of_both P true a b p q = p
+of_both P false a b p q = q
 
 -- which of the two was picked
-pub pick-says : {A : Type 0} (t : Bool) (a b r : A) → pick t a b ≡ r → ((t ≡ true) × (a ≡ r)) ⊎ ((t ≡ false) × (b ≡ r))
-pick-says true a b r e = inl (refl, e)
-pick-says false a b r e = inr (refl, e)
+pub pick_says : {A : Type 0} (t : Bool) (a b r : A) → pick t a b ≡ r → ((t ≡ true) × (a ≡ r)) ⊎ ((t ≡ false) × (b ≡ r))
+pick_says true a b r e = inl (refl, e)
+pick_says false a b r e = inr (refl, e)
 
 -- a test that is the conjunction of two
 pub both : (s t : Bool) → pick s t false ≡ true → (s ≡ true) × (t ≡ true)
 both true t e = (refl, e)
-both false t e = absurd (true-not-false (sym e))
+both false t e = absurd (true_not_false (sym e))
 
-pub lt-or-le : (a b : ℕ) → (a < b) ⊎ (b ≤ a)
-lt-or-le a b = split (ltb a b) (λ e. inl (ltb-true a b e)) (λ e. inr (ltb-false a b e))
+pub lt_or_le : (a b : ℕ) → (a < b) ⊎ (b ≤ a)
+lt_or_le a b = split (ltb a b) (λ e. inl (ltb-true a b e)) (λ e. inr (ltb-false a b e))

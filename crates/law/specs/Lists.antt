@@ -28,51 +28,51 @@ module _ {A : Type 0} where
   all_append P [] k h j = j
   all_append P (a ∷ l) k h j = (h.0, all_append P l k h.1 j)
 
-  pub all-front : (P : A → Type 0) (l k : List A) → All P (l ++ k) → All P l
+  pub all_front : (P : A → Type 0) (l k : List A) → All P (l ++ k) → All P l
   unfolding All
-  all-front P [] k h = tt
-  all-front P (a ∷ l) k h = (h.0, all-front P l k h.1)
+  all_front P [] k h = tt
+  all_front P (a ∷ l) k h = (h.0, all_front P l k h.1)
 
-  pub all-behind : (P : A → Type 0) (l k : List A) → All P (l ++ k) → All P k
+  pub all_behind : (P : A → Type 0) (l k : List A) → All P (l ++ k) → All P k
   unfolding All
-  all-behind P [] k h = h
-  all-behind P (a ∷ l) k h = all-behind P l k h.1
+  all_behind P [] k h = h
+  all_behind P (a ∷ l) k h = all_behind P l k h.1
 
   -- of the element at a place, and of what stands for none
-  pub all-at : (P : A → Type 0) (l : List A) (n : ℕ) (d : A) → P d → All P l → P (get_or l n d)
+  pub all_at : (P : A → Type 0) (l : List A) (n : ℕ) (d : A) → P d → All P l → P (get_or l n d)
   unfolding All
-  all-at P [] n d p h = p
-  all-at P (a ∷ l) zero d p h = h.0
-  all-at P (a ∷ l) (suc n) d p h = all-at P l n d p h.1
+  all_at P [] n d p h = p
+  all_at P (a ∷ l) zero d p h = h.0
+  all_at P (a ∷ l) (suc n) d p h = all_at P l n d p h.1
 
   pub keep_append : (b : Bool) (a : A) (l k : List A) → keep b a (l ++ k) ≡ keep b a l ++ k
   unfolding keep
   keep_append true a l k = refl
   keep_append false a l k = refl
 
-  pub filter-append : (q : A → Bool) (l k : List A) → filter q (l ++ k) ≡ filter q l ++ filter q k
+  pub filter_append : (q : A → Bool) (l k : List A) → filter q (l ++ k) ≡ filter q l ++ filter q k
   unfolding filter
-  filter-append q [] k = refl
-  filter-append q (a ∷ l) k = ap (keep (q a) a) (filter-append q l k) ∙ keep_append (q a) a (filter q l) (filter q k)
+  filter_append q [] k = refl
+  filter_append q (a ∷ l) k = ap (keep (q a) a) (filter_append q l k) ∙ keep_append (q a) a (filter q l) (filter q k)
 
   -- two tests, in either order
-  keep-both : (q r : A → Bool) (x y : Bool) (a : A) (l : List A) → q a ≡ x → r a ≡ y → filter q (filter r l) ≡ filter r (filter q l) →
+  keep_both : (q r : A → Bool) (x y : Bool) (a : A) (l : List A) → q a ≡ x → r a ≡ y → filter q (filter r l) ≡ filter r (filter q l) →
       filter q (keep y a (filter r l)) ≡ filter r (keep x a (filter q l))
   unfolding keep filter
-  keep-both q r true true a l e f h = rw (e, f) (ap (λ (k : List A). a ∷ k) h)
-  keep-both q r true false a l e f h = rw f h
-  keep-both q r false true a l e f h = rw e h
-  keep-both q r false false a l e f h = h
+  keep_both q r true true a l e f h = rw (e, f) (ap (λ (k : List A). a ∷ k) h)
+  keep_both q r true false a l e f h = rw f h
+  keep_both q r false true a l e f h = rw e h
+  keep_both q r false false a l e f h = h
 
-  pub filter-both : (q r : A → Bool) (l : List A) → filter q (filter r l) ≡ filter r (filter q l)
+  pub filter_both : (q r : A → Bool) (l : List A) → filter q (filter r l) ≡ filter r (filter q l)
   unfolding filter
-  filter-both q r [] = refl
-  filter-both q r (a ∷ l) = keep-both q r (q a) (r a) a l refl refl (filter-both q r l)
+  filter_both q r [] = refl
+  filter_both q r (a ∷ l) = keep_both q r (q a) (r a) a l refl refl (filter_both q r l)
 
-  pub filter-all : (q : A → Bool) (l : List A) → All (λ a. q a ≡ true) l → filter q l ≡ l
+  pub filter_all : (q : A → Bool) (l : List A) → All (λ a. q a ≡ true) l → filter q l ≡ l
   unfolding filter All keep
-  filter-all q [] h = refl
-  filter-all q (a ∷ l) h = rw h.0 (ap (λ (k : List A). a ∷ k) (filter-all q l h.1))
+  filter_all q [] h = refl
+  filter_all q (a ∷ l) h = rw h.0 (ap (λ (k : List A). a ∷ k) (filter_all q l h.1))
 
   pub filter_none : (q : A → Bool) (l : List A) → All (λ a. q a ≡ false) l → filter q l ≡ []
   unfolding filter All keep
@@ -89,39 +89,39 @@ module _ {A : Type 0} where
   all_filter P q [] h = tt
   all_filter P q (a ∷ l) h = all_keep P (q a) a (filter q l) h.0 (all_filter P q l h.1)
 
-  all-passed : (P : A → Type 0) (q : A → Bool) (b : Bool) (a : A) (l : List A) → (q a ≡ true → P a) → q a ≡ b → All P l → All P (keep b a l)
+  all_passed : (P : A → Type 0) (q : A → Bool) (b : Bool) (a : A) (l : List A) → (q a ≡ true → P a) → q a ≡ b → All P l → All P (keep b a l)
   unfolding keep All
-  all-passed P q true a l p e h = (p e, h)
-  all-passed P q false a l p e h = h
+  all_passed P q true a l p e h = (p e, h)
+  all_passed P q false a l p e h = h
 
   -- what is left passed the test
   pub all_pass : (P : A → Type 0) (q : A → Bool) → ((a : A) → q a ≡ true → P a) → (l : List A) → All P (filter q l)
   unfolding filter All
   all_pass P q f [] = tt
-  all_pass P q f (a ∷ l) = all-passed P q (q a) a (filter q l) (f a) refl (all_pass P q f l)
+  all_pass P q f (a ∷ l) = all_passed P q (q a) a (filter q l) (f a) refl (all_pass P q f l)
 
   -- the test of a list's front
   pub front_out : (q : A → Bool) (p l : List A) → All (λ a. q a ≡ false) p → filter q (p ++ l) ≡ filter q l
-  front_out q p l h = filter-append q p l ∙ ap (λ (k : List A). k ++ filter q l) (filter_none q p h)
+  front_out q p l h = filter_append q p l ∙ ap (λ (k : List A). k ++ filter q l) (filter_none q p h)
 
-  pub front-in : (q : A → Bool) (p l : List A) → All (λ a. q a ≡ true) p → filter q (p ++ l) ≡ p ++ filter q l
-  front-in q p l h = filter-append q p l ∙ ap (λ (k : List A). k ++ filter q l) (filter-all q p h)
+  pub front_in : (q : A → Bool) (p l : List A) → All (λ a. q a ≡ true) p → filter q (p ++ l) ≡ p ++ filter q l
+  front_in q p l h = filter_append q p l ∙ ap (λ (k : List A). k ++ filter q l) (filter_all q p h)
 
 -- by neighbours or of all later ones: it is the same
 module _ {A : Type 0} (f : A → ℕ) where
-  from-above : (n : ℕ) (l : List A) → RisingFrom f n l → All (λ (a : A). n ≤ f a) l
+  from_above : (n : ℕ) (l : List A) → RisingFrom f n l → All (λ (a : A). n ≤ f a) l
   unfolding RisingFrom All
-  from-above n [] h = tt
-  from-above n (a ∷ l) h =
+  from_above n [] h = tt
+  from_above n (a ∷ l) h =
       let le : n ≤ f a = h.0 in
-      (le, all_map _ _ (λ b k. omega arith) l (from-above (f a) l h.1))
+      (le, all_map _ _ (λ b k. omega arith) l (from_above (f a) l h.1))
 
-  pub from-rising : (n : ℕ) (l : List A) → RisingFrom f n l → Rising f l
+  pub from_rising : (n : ℕ) (l : List A) → RisingFrom f n l → Rising f l
   unfolding RisingFrom Rising
-  from-rising n [] h = tt
-  from-rising n (a ∷ l) h = (from-above (f a) l h.1, from-rising (f a) l h.1)
+  from_rising n [] h = tt
+  from_rising n (a ∷ l) h = (from_above (f a) l h.1, from_rising (f a) l h.1)
 
-  pub rising-from : (n : ℕ) (l : List A) → All (λ (a : A). n ≤ f a) l → Rising f l → RisingFrom f n l
+  pub rising_from : (n : ℕ) (l : List A) → All (λ (a : A). n ≤ f a) l → Rising f l → RisingFrom f n l
   unfolding All RisingFrom Rising
-  rising-from n [] h k = tt
-  rising-from n (a ∷ l) h k = (h.0, rising-from (f a) l k.0 k.1)
+  rising_from n [] h k = tt
+  rising_from n (a ∷ l) h k = (h.0, rising_from (f a) l k.0 k.1)

@@ -25,6 +25,6 @@ Rising f [] = Unit {0}
 Rising f (a ∷ l) = All (λ b. f a ≤ f b) l × Rising f l
 
 -- f gets the place and the element
-abbrev pub byPlace : (ℕ → ℕ → ℕ) → ℕ → List ℕ → List ℕ
-byPlace f i [] = []
-byPlace f i (x ∷ xs) = f i x ∷ byPlace f (suc i) xs
+abbrev pub by_place : (ℕ → ℕ → ℕ) → ℕ → List ℕ → List ℕ
+by_place f i [] = []
+by_place f i (x ∷ xs) = f i x ∷ by_place f (suc i) xs

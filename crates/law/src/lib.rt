@@ -2,7 +2,7 @@
 // It knows nothing of chips or traces.
 ghost use Rattle.std.specs.Prelude.{◌≡◌, false};
 ghost use Rattle.law.specs.Words.{pick};
-ghost use Rattle.law.specs.Numbers.{numbersOf};
+ghost use Rattle.law.specs.Numbers.{numbers_of};
 ghost use Rattle.law.specs.Deciding.{Decides};
 
 // The parts of an enum's value as numbers: which case it is, and up to four numbers that the case holds, else 0.
@@ -16,7 +16,7 @@ pub struct Numbers {
 }
 
 pub fn numbers_of(kind: u32, a: u32, b: u32, c: u32, d: u32) -> Numbers
-    ensures { result ≡ numbersOf kind a b c d }
+    ensures { result ≡ numbers_of kind a b c d }
 {
     Numbers {
         kind: kind,

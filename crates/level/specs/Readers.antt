@@ -4,17 +4,17 @@ use Rattle.field.specs.Reads.{Reads}
 use Rattle.level.specs.declared.reader.ReadFlag.{ReadFlag}
 use Rattle.level.specs.declared.reader.ReadSpi.{ReadSpi}
 use Rattle.level.specs.declared.reader.ReadWires.{ReadWires}
-use Rattle.level.specs.Spelled.{levelDigit, spelledSpi, spelledWires}
+use Rattle.level.specs.Spelled.{level_digit, spelled_spi, spelled_wires}
 
 -- a digit and the byte that ends its field
-unfoldable pub spelledFlag : ℕ → Bool → List ℕ
-spelledFlag end a = levelDigit a ∷ end ∷ []
+unfoldable pub spelled_flag : ℕ → Bool → List ℕ
+spelled_flag end a = level_digit a ∷ end ∷ []
 
 abbrev pub ReadsFlag : ℕ → List ℕ → ℕ → ReadFlag → Type 0
-ReadsFlag end = Reads (spelledFlag end) (λ _. Unit {0}) (λ a p. ReadFlag.Value a (record { at = p })) ReadFlag.Bad
+ReadsFlag end = Reads (spelled_flag end) (λ _. Unit {0}) (λ a p. ReadFlag.Value a (record { at = p })) ReadFlag.Bad
 
 abbrev pub ReadsSpi : List ℕ → ℕ → ReadSpi → Type 0
-ReadsSpi = Reads spelledSpi (λ _. Unit {0}) (λ x p. ReadSpi.Value x (record { at = p })) ReadSpi.Bad
+ReadsSpi = Reads spelled_spi (λ _. Unit {0}) (λ x p. ReadSpi.Value x (record { at = p })) ReadSpi.Bad
 
 abbrev pub ReadsWires : List ℕ → ℕ → ReadWires → Type 0
-ReadsWires = Reads spelledWires (λ _. Unit {0}) (λ x p. ReadWires.Value x (record { at = p })) ReadWires.Bad
+ReadsWires = Reads spelled_wires (λ _. Unit {0}) (λ x p. ReadWires.Value x (record { at = p })) ReadWires.Bad

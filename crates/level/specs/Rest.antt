@@ -20,14 +20,14 @@ abbrev pub resting : Level → Bool
 resting l = pick l.spi.cs (pick l.spi.hold (pick l.wires.scl (pick l.wires.sda (pick l.spi.sck false true) false) false) false) false
 
 -- 'SCK changes together with CS, SI or HOLD'
-abbrev pub spiClash : Spi → Spi → Bool
-spiClash a b =
+abbrev pub spi_clash : Spi → Spi → Bool
+spi_clash a b =
     pick (changes a.sck b.sck) (pick (changes a.cs b.cs) true (pick (changes a.si b.si) true (changes a.hold b.hold))) false
 
 -- 'or SCL with SDA'
-abbrev pub wiresClash : Wires → Wires → Bool
-wiresClash a b = pick (changes a.scl b.scl) (changes a.sda b.sda) false
+abbrev pub wires_clash : Wires → Wires → Bool
+wires_clash a b = pick (changes a.scl b.scl) (changes a.sda b.sda) false
 
 -- refusal 13, of a line and the next
 abbrev pub clash : Level → Level → Bool
-clash a b = pick (spiClash a.spi b.spi) true (wiresClash a.wires b.wires)
+clash a b = pick (spi_clash a.spi b.spi) true (wires_clash a.wires b.wires)

@@ -1,7 +1,7 @@
 // One line of the analyser's capture (document 02, request 4/12): a stamp, then the levels of CS, SCK, SI, SO, HOLD, SCL and SDA; and what two lines in turn must not show.
 ghost use Rattle.std.specs.Prelude.{◌≡◌, true, false};
 ghost use Rattle.law.specs.Words.{pick};
-ghost use Rattle.level.specs.Rest.{falls, rises, changes, resting, spiClash, wiresClash, clash};
+ghost use Rattle.level.specs.Rest.{falls, rises, changes, resting, spi_clash, wires_clash, clash};
 
 mod reader;
 
@@ -95,7 +95,7 @@ pub fn rests(l: Level) -> bool
 
 // Whether SCK changes together with CS, SI or HOLD.
 fn spi_clashes(a: Spi, b: Spi) -> bool
-    ensures { result ≡ spiClash a b }
+    ensures { result ≡ spi_clash a b }
 {
     if changes(a.sck, b.sck) {
         if changes(a.cs, b.cs) {
@@ -111,7 +111,7 @@ fn spi_clashes(a: Spi, b: Spi) -> bool
 
 // Whether SCL changes together with SDA.
 fn wires_clash(a: Wires, b: Wires) -> bool
-    ensures { result ≡ wiresClash a b }
+    ensures { result ≡ wires_clash a b }
 {
     if changes(a.scl, b.scl) {
         return changes(a.sda, b.sda);

@@ -17,9 +17,9 @@ use Rattle.field.specs.Decimal.{largest}
 use Rattle.field.specs.Reads.{Stands}
 use Rattle.line.specs.ChannelF.{FlashOk}
 use Rattle.line.specs.ChannelE.{EepromOk}
-use Rattle.line.specs.Boards.{spelledBoard, BoardOk}
+use Rattle.line.specs.Boards.{spelled_board, BoardOk}
 use Rattle.line.specs.Records.{spelled, EventOk, RecordOk}
-use Rattle.line.proofs.Theorems.{Known, and-known, lt-known, le-known, recordAt, record-law, boardAt, board-law, board-known}
+use Rattle.line.proofs.Theorems.{Known, and_known, lt_known, le_known, record_at, record_law, board_at, board_law, board_known}
 
 -- ---- whether bytes stand at the front of a list
 Front : List ℕ → List ℕ → Type 0
@@ -33,43 +33,43 @@ tail : List ℕ → List ℕ
 tail [] = []
 tail (x ∷ l) = l
 
-front-known : (l w : List ℕ) → Known (Front l w)
+front_known : (l w : List ℕ) → Known (Front l w)
 unfolding Front head tail
-front-known l [] = inl (l, refl)
-front-known [] (b ∷ w) = inr (λ z. let e : ◌≡◌ {A = ℕ} 0 (suc (length (w ++ z.0))) = ap length z.1 in omega arith)
-front-known (a ∷ l) (b ∷ w) = split (eqb a b) (λ e. same (eqb-true a b e) (front-known l w)) (λ e. inr (λ z. eqb-false a b e (ap (head a) z.1)))
+front_known l [] = inl (l, refl)
+front_known [] (b ∷ w) = inr (λ z. let e : ◌≡◌ {A = ℕ} 0 (suc (length (w ++ z.0))) = ap length z.1 in omega arith)
+front_known (a ∷ l) (b ∷ w) = split (eqb a b) (λ e. same (eqb-true a b e) (front_known l w)) (λ e. inr (λ z. eqb-false a b e (ap (head a) z.1)))
   where
     same : a ≡ b → Known (Front l w) → Known (Front (a ∷ l) (b ∷ w))
     same e k = ⊎_elim (λ z. inl (z.0, λ i. e i ∷ z.1 i)) (λ n. inr (λ z. n (z.0, ap tail z.1))) k
 
-stands-known : (text w : List ℕ) (at : ℕ) → Known (Stands text at w)
+stands_known : (text w : List ℕ) (at : ℕ) → Known (Stands text at w)
 unfolding Front
-stands-known text w at = ⊎_elim (λ z. inl (record { rest = z.0; is = z.1 })) (λ n. inr (λ s. n (s.rest, s.is))) (front-known (drop at text) w)
+stands_known text w at = ⊎_elim (λ z. inl (record { rest = z.0; is = z.1 })) (λ n. inr (λ s. n (s.rest, s.is))) (front_known (drop at text) w)
 
 -- ---- events
-flash-known : (e : FlashEvent) → Known (FlashOk e)
-flash-known FlashEvent.Select = inl tt
-flash-known (FlashEvent.Byte si so) = and-known (lt-known si 256) (lt-known so 256)
-flash-known FlashEvent.Cut = inl tt
-flash-known FlashEvent.Deselect = inl tt
-flash-known FlashEvent.End = inl tt
+flash_known : (e : FlashEvent) → Known (FlashOk e)
+flash_known FlashEvent.Select = inl tt
+flash_known (FlashEvent.Byte si so) = and_known (lt_known si 256) (lt_known so 256)
+flash_known FlashEvent.Cut = inl tt
+flash_known FlashEvent.Deselect = inl tt
+flash_known FlashEvent.End = inl tt
 
-eeprom-known : (e : EepromEvent) → Known (EepromOk e)
-eeprom-known EepromEvent.Start = inl tt
-eeprom-known (EepromEvent.Byte b a) = lt-known b 256
-eeprom-known EepromEvent.Cut = inl tt
-eeprom-known EepromEvent.Stop = inl tt
-eeprom-known EepromEvent.End = inl tt
+eeprom_known : (e : EepromEvent) → Known (EepromOk e)
+eeprom_known EepromEvent.Start = inl tt
+eeprom_known (EepromEvent.Byte b a) = lt_known b 256
+eeprom_known EepromEvent.Cut = inl tt
+eeprom_known EepromEvent.Stop = inl tt
+eeprom_known EepromEvent.End = inl tt
 
-event-known : (e : Event) → Known (EventOk e)
-event-known (Event.Flash e) = flash-known e
-event-known (Event.Eeprom e) = eeprom-known e
-event-known (Event.Line e) = inl tt
+event_known : (e : Event) → Known (EventOk e)
+event_known (Event.Flash e) = flash_known e
+event_known (Event.Eeprom e) = eeprom_known e
+event_known (Event.Line e) = inl tt
 
 -- ---- what stands at a place, of a kind whose values are found from their bytes
 module _ {A : Type 0} (spell : A → List ℕ) (Ok : A → Type 0) (decode : List ℕ → A) (law : (x : A) → Ok x → (rest : List ℕ) → decode (spell x ++ rest) ≡ x) (known : (x : A) → Known (Ok x)) (text : List ℕ) (at : ℕ) where
-  here-known : Known ((x : A) × Ok x × Stands text at (spell x))
-  here-known = ⊎_elim (λ z. inl (decode (drop at text), z.0, z.1)) (λ n. inr (λ z. n (found z))) (and-known (known (decode (drop at text))) (stands-known text (spell (decode (drop at text))) at))
+  here_known : Known ((x : A) × Ok x × Stands text at (spell x))
+  here_known = ⊎_elim (λ z. inl (decode (drop at text), z.0, z.1)) (λ n. inr (λ z. n (found z))) (and_known (known (decode (drop at text))) (stands_known text (spell (decode (drop at text))) at))
     where
       found : (x : A) × Ok x × Stands text at (spell x) → Ok (decode (drop at text)) × Stands text at (spell (decode (drop at text)))
       found z = subst (λ (x : A). Ok x × Stands text at (spell x)) (sym (ap decode z.2.is ∙ law z.0 z.1 z.2.rest)) (z.1, z.2)
@@ -78,13 +78,13 @@ module _ {A : Type 0} (spell : A → List ℕ) (Ok : A → Type 0) (decode : Lis
 unfoldable pub RecordHere : List ℕ → ℕ → Type 0
 RecordHere text at = (r : Record) × RecordOk r × Stands text at (spelled r)
 
-pub record-here : (text : List ℕ) (at : ℕ) → Known (RecordHere text at)
+pub record_here : (text : List ℕ) (at : ℕ) → Known (RecordHere text at)
 unfolding RecordHere
-record-here = here-known spelled RecordOk recordAt record-law (λ r. and-known (le-known r.stamp largest) (event-known r.event))
+record_here = here_known spelled RecordOk record_at record_law (λ r. and_known (le_known r.stamp largest) (event_known r.event))
 
 -- a board stands at the front, and is in range
 abbrev pub BoardHere : List ℕ → Type 0
-BoardHere text = (b : Board) × BoardOk b × Stands text 0 (spelledBoard b)
+BoardHere text = (b : Board) × BoardOk b × Stands text 0 (spelled_board b)
 
-pub board-here : (text : List ℕ) → Known (BoardHere text)
-board-here text = here-known spelledBoard BoardOk boardAt board-law board-known text 0
+pub board_here : (text : List ℕ) → Known (BoardHere text)
+board_here text = here_known spelled_board BoardOk board_at board_law board_known text 0

@@ -12,79 +12,79 @@ use Rattle.record.specs.declared.LineEvent.{LineEvent}
 use Rattle.record.specs.declared.LineEvent.TheVariants.{SupplyOn, SupplyOff, LockOn, LockOff}
 use Rattle.field.specs.Ends.{lf}
 use Rattle.field.specs.Fields.{one_of, same}
-use Rattle.field.specs.Readers.{contentAt}
+use Rattle.field.specs.Readers.{content_at}
 use Rattle.field.proofs.Answers.{GotWord, NoWord}
 use Rattle.field.proofs.FieldLaws.{Plain, plain_of}
-use Rattle.field.proofs.Sequence.{bad-content, last_word, not-word, word-begins, one-of, none_of}
+use Rattle.field.proofs.Sequence.{bad_content, last_word, not_word, word_begins, one_of_lem, none_of}
 use Rattle.line.specs.declared.events.ReadEvent.{ReadEvent}
-use Rattle.line.specs.ChannelL.{spelledLine}
-use Rattle.line.specs.Places.{isLineEvent}
+use Rattle.line.specs.ChannelL.{spelled_line}
+use Rattle.line.specs.Places.{is_line_event}
 use Rattle.line.specs.Readers.{ReadsLine, ReadsLast}
-use Rattle.line.specs.Words.{wordOn, wordOff, wordLock, wordFree}
+use Rattle.line.specs.Words.{word_on, word_off, word_lock, word_free}
 
 -- the event that a line spells, found from its bytes
 unfoldable pub line_at : List ℕ → LineEvent
 line_at l = pick (eqb (get_or l 0 0) 111) (pick (eqb (get_or l 1 0) 110) SupplyOn SupplyOff) (pick (eqb (get_or l 0 0) 108) LockOn LockOff)
 
-pub line-law : (x : LineEvent) → Unit {0} → (rest : List ℕ) → line_at (spelledLine x ++ rest) ≡ x
-unfolding line_at spelledLine
-line-law SupplyOn o rest = refl
-line-law SupplyOff o rest = refl
-line-law LockOn o rest = refl
-line-law LockOff o rest = refl
+pub line_law : (x : LineEvent) → Unit {0} → (rest : List ℕ) → line_at (spelled_line x ++ rest) ≡ x
+unfolding line_at spelled_line
+line_law SupplyOn o rest = refl
+line_law SupplyOff o rest = refl
+line_law LockOn o rest = refl
+line_law LockOff o rest = refl
 
 -- an event's word; nothing but the LF comes after it
-abbrev lineWord : LineEvent → List ℕ
-lineWord SupplyOn = wordOn
-lineWord SupplyOff = wordOff
-lineWord LockOn = wordLock
-lineWord LockOff = wordFree
+abbrev line_word : LineEvent → List ℕ
+line_word SupplyOn = word_on
+line_word SupplyOff = word_off
+line_word LockOn = word_lock
+line_word LockOff = word_free
 
-line-parts : (y : LineEvent) → spelledLine y ≡ lineWord y ++ lf
-unfolding spelledLine
-line-parts SupplyOn = refl
-line-parts SupplyOff = refl
-line-parts LockOn = refl
-line-parts LockOff = refl
+line_parts : (y : LineEvent) → spelled_line y ≡ line_word y ++ lf
+unfolding spelled_line
+line_parts SupplyOn = refl
+line_parts SupplyOff = refl
+line_parts LockOn = refl
+line_parts LockOff = refl
 
-line_plain : (y : LineEvent) → Plain (lineWord y)
-line_plain SupplyOn = plain_of wordOn refl
-line_plain SupplyOff = plain_of wordOff refl
-line_plain LockOn = plain_of wordLock refl
-line_plain LockOff = plain_of wordFree refl
+line_plain : (y : LineEvent) → Plain (line_word y)
+line_plain SupplyOn = plain_of word_on refl
+line_plain SupplyOff = plain_of word_off refl
+line_plain LockOn = plain_of word_lock refl
+line_plain LockOff = plain_of word_free refl
 
-line-allowed : (y : LineEvent) → isLineEvent (lineWord y) ≡ true
-unfolding isLineEvent one_of same
-line-allowed SupplyOn = refl
-line-allowed SupplyOff = refl
-line-allowed LockOn = refl
-line-allowed LockOff = refl
+line_allowed : (y : LineEvent) → is_line_event (line_word y) ≡ true
+unfolding is_line_event one_of same
+line_allowed SupplyOn = refl
+line_allowed SupplyOff = refl
+line_allowed LockOn = refl
+line_allowed LockOff = refl
 
-line-by : (y : LineEvent) → y ≡ line_at (lineWord y)
+line_by_lem : (y : LineEvent) → y ≡ line_at (line_word y)
 unfolding line_at
-line-by SupplyOn = refl
-line-by SupplyOff = refl
-line-by LockOn = refl
-line-by LockOff = refl
+line_by_lem SupplyOn = refl
+line_by_lem SupplyOff = refl
+line_by_lem LockOn = refl
+line_by_lem LockOff = refl
 
 -- no longer word is allowed
-line-longer : (y : LineEvent) (b : ℕ) (u : List ℕ) → isLineEvent (lineWord y ++ (b ∷ u)) ≡ false
-unfolding isLineEvent one_of same
-line-longer SupplyOn b u = refl
-line-longer SupplyOff b u = refl
-line-longer LockOn b u = refl
-line-longer LockOff b u = refl
+line_longer : (y : LineEvent) (b : ℕ) (u : List ℕ) → is_line_event (line_word y ++ (b ∷ u)) ≡ false
+unfolding is_line_event one_of same
+line_longer SupplyOn b u = refl
+line_longer SupplyOff b u = refl
+line_longer LockOn b u = refl
+line_longer LockOff b u = refl
 
 module _ {text : List ℕ} {at : ℕ} where
-  pub line-none : NoWord wordOn text at → NoWord wordOff text at → NoWord wordLock text at → NoWord wordFree text at → ReadsLine text at (ReadEvent.Bad 3)
-  unfolding isLineEvent
-  line-none on off lock free =
-      bad-content ReadEvent.Bad isLineEvent (λ _ _. []) 3 lineWord (λ _. lf) line-parts (λ y o. line_plain y) (λ y o. line-allowed y) (λ y l. refl)
-      (split (isLineEvent (contentAt text at))
-      (λ e. absurd (one-of wordOn _ _ e (not-word on) (λ e1. one-of wordOff _ _ e1 (not-word off) (λ e2. one-of wordLock _ _ e2 (not-word lock) (λ e3. one-of wordFree _ _ e3 (not-word free) (none_of _))))))
+  pub line_none : NoWord word_on text at → NoWord word_off text at → NoWord word_lock text at → NoWord word_free text at → ReadsLine text at (ReadEvent.Bad 3)
+  unfolding is_line_event
+  line_none on off lock free =
+      bad_content ReadEvent.Bad is_line_event (λ _ _. []) 3 line_word (λ _. lf) line_parts (λ y o. line_plain y) (λ y o. line_allowed y) (λ y l. refl)
+      (split (is_line_event (content_at text at))
+      (λ e. absurd (one_of_lem word_on _ _ e (not_word on) (λ e1. one_of_lem word_off _ _ e1 (not_word off) (λ e2. one_of_lem word_lock _ _ e2 (not_word lock) (λ e3. one_of_lem word_free _ _ e3 (not_word free) (none_of _))))))
       (λ e. e))
 
-  pub line-last : {p : ℕ} {r : ReadEvent} (x : LineEvent) → GotWord (lineWord x) text at p → ReadsLast (Event.Line x) text p r → ReadsLine text at r
-  line-last x g h =
-      last_word ReadEvent.Bad isLineEvent (λ _ _. []) 3 lineWord (λ _. lf) line-parts (λ y _. line_plain y) (λ y _. line-allowed y) (λ y l. refl) (word-begins (line_plain x) (line-allowed x) (line-longer x) g) x tt refl
-      (λ y o. line-by y ∙ ap line_at (sym o.1) ∙ sym (line-by x)) refl (λ fs. refl) h
+  pub line_last : {p : ℕ} {r : ReadEvent} (x : LineEvent) → GotWord (line_word x) text at p → ReadsLast (Event.Line x) text p r → ReadsLine text at r
+  line_last x g h =
+      last_word ReadEvent.Bad is_line_event (λ _ _. []) 3 line_word (λ _. lf) line_parts (λ y _. line_plain y) (λ y _. line_allowed y) (λ y l. refl) (word_begins (line_plain x) (line_allowed x) (line_longer x) g) x tt refl
+      (λ y o. line_by_lem y ∙ ap line_at (sym o.1) ∙ sym (line_by_lem x)) refl (λ fs. refl) h

@@ -3,10 +3,10 @@ use Rattle.std.specs.Prelude.{ℕ, List, ◌++◌}
 use Rattle.record.specs.declared.LineEvent.{LineEvent}
 use Rattle.record.specs.declared.LineEvent.TheVariants.{SupplyOn, SupplyOff, LockOn, LockOff}
 use Rattle.field.specs.Ends.{lf}
-use Rattle.line.specs.Words.{wordOn, wordOff, wordLock, wordFree}
+use Rattle.line.specs.Words.{word_on, word_off, word_lock, word_free}
 
-unfoldable pub spelledLine : LineEvent → List ℕ
-spelledLine SupplyOn = wordOn ++ lf
-spelledLine SupplyOff = wordOff ++ lf
-spelledLine LockOn = wordLock ++ lf
-spelledLine LockOff = wordFree ++ lf
+unfoldable pub spelled_line : LineEvent → List ℕ
+spelled_line SupplyOn = word_on ++ lf
+spelled_line SupplyOff = word_off ++ lf
+spelled_line LockOn = word_lock ++ lf
+spelled_line LockOff = word_free ++ lf

@@ -4,12 +4,12 @@ use Rattle.law.specs.Words.{pick}
 use Rattle.line.specs.declared.output.Written.{Written}
 
 -- the paper's number, 0 where nothing is refused, and the length
-abbrev pub onPaper : Written → ℕ × ℕ
-onPaper Written.OutOfRange = (9, 0)
-onPaper Written.TooShort = (10, 0)
-onPaper (Written.Length n) = (0, n)
+abbrev pub on_paper : Written → ℕ × ℕ
+on_paper Written.OutOfRange = (9, 0)
+on_paper Written.TooShort = (10, 0)
+on_paper (Written.Length n) = (0, n)
 
 -- The bytes w are written: where the output is too short for them it stays as it was, else they stand at its front and the rest stays.
 pub record Wrote (w old new : List ℕ) (r : Written) : Type 0 where
-  pub answer : onPaper r ≡ pick (ltb (length old) (length w)) (10, 0) (0, length w)
+  pub answer : on_paper r ≡ pick (ltb (length old) (length w)) (10, 0) (0, length w)
   pub content : new ≡ pick (ltb (length old) (length w)) old (w ++ drop (length w) old)

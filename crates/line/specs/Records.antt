@@ -9,20 +9,20 @@ use Rattle.field.specs.Ends.{tab}
 use Rattle.field.specs.Decimal.{largest, decimal}
 use Rattle.field.specs.Reads.{Reads}
 use Rattle.line.specs.declared.records.ReadRecord.{ReadRecord}
-use Rattle.line.specs.Places.{firstBadField}
-use Rattle.line.specs.Words.{channelF, channelE, channelL}
-use Rattle.line.specs.ChannelF.{spelledFlash, FlashOk}
-use Rattle.line.specs.ChannelE.{spelledEeprom, EepromOk}
-use Rattle.line.specs.ChannelL.{spelledLine}
+use Rattle.line.specs.Places.{first_bad_field}
+use Rattle.line.specs.Words.{channel_f, channel_e, channel_l}
+use Rattle.line.specs.ChannelF.{spelled_flash, FlashOk}
+use Rattle.line.specs.ChannelE.{spelled_eeprom, EepromOk}
+use Rattle.line.specs.ChannelL.{spelled_line}
 
-unfoldable pub spelledEvent : Event → List ℕ
-spelledEvent (Flash e) = channelF ++ (tab ++ spelledFlash e)
-spelledEvent (Eeprom e) = channelE ++ (tab ++ spelledEeprom e)
-spelledEvent (Line e) = channelL ++ (tab ++ spelledLine e)
+unfoldable pub spelled_event : Event → List ℕ
+spelled_event (Flash e) = channel_f ++ (tab ++ spelled_flash e)
+spelled_event (Eeprom e) = channel_e ++ (tab ++ spelled_eeprom e)
+spelled_event (Line e) = channel_l ++ (tab ++ spelled_line e)
 
 -- the one spelling of a record: its line with the LF
 unfoldable pub spelled : Record → List ℕ
-spelled r = decimal r.stamp ++ (tab ++ spelledEvent r.event)
+spelled r = decimal r.stamp ++ (tab ++ spelled_event r.event)
 
 abbrev pub EventOk : Event → Type 0
 EventOk (Flash e) = FlashOk e
@@ -34,17 +34,17 @@ abbrev pub RecordOk : Record → Type 0
 RecordOk r = (r.stamp ≤ largest) × EventOk r.event
 
 -- the reading where no record's line stands: it tells the number of the first bad field
-abbrev pub badRecord : List ℕ → ℕ → ReadRecord
-badRecord text at = ReadRecord.Bad (firstBadField (drop at text))
+abbrev pub bad_record : List ℕ → ℕ → ReadRecord
+bad_record text at = ReadRecord.Bad (first_bad_field (drop at text))
 
 abbrev pub ReadsRecord : List ℕ → ℕ → ReadRecord → Type 0
-ReadsRecord text at = Reads spelled RecordOk (λ x p. ReadRecord.Value x (record { at = p })) (badRecord text at) text at
+ReadsRecord text at = Reads spelled RecordOk (λ x p. ReadRecord.Value x (record { at = p })) (bad_record text at) text at
 
 -- a reading by the paper's answers and fields: 3 and the field where no record's line stands, 0 (nothing is refused) and 0 where one does
-abbrev pub recordAnswer : ReadRecord → Answer
-recordAnswer (ReadRecord.Bad n) = BadLine
-recordAnswer (ReadRecord.Value r next) = Settled
+abbrev pub record_answer : ReadRecord → Answer
+record_answer (ReadRecord.Bad n) = BadLine
+record_answer (ReadRecord.Value r next) = Settled
 
-abbrev pub recordFault : ReadRecord → ℕ
-recordFault (ReadRecord.Bad n) = n
-recordFault (ReadRecord.Value r next) = 0
+abbrev pub record_fault : ReadRecord → ℕ
+record_fault (ReadRecord.Bad n) = n
+record_fault (ReadRecord.Value r next) = 0

@@ -2,8 +2,8 @@
 use Rattle.std.specs.Prelude.{ℕ, List, [], ◌∷◌}
 
 -- Lines of a record: the examples that the request was decided by (docs/DECISIONS.md, D67), and some more. Blanks stand for tabs, and an LF ends the line where nothing else is said.
-abbrev pub typedWrong : List (List ℕ × ℕ)
-typedWrong =
+abbrev pub typed_wrong : List (List ℕ × ℕ)
+typed_wrong =
     -- an empty line
     (10 ∷ [], 1)
     -- 10
@@ -53,8 +53,8 @@ typedWrong =
     ∷ []
 
 -- whole texts whose first line, the board's, is wrong
-abbrev pub typedWrongFirst : List (List ℕ × ℕ)
-typedWrongFirst =
+abbrev pub typed_wrong_first : List (List ℕ × ℕ)
+typed_wrong_first =
     -- no text
     ([], 1)
     -- boar

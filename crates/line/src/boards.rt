@@ -1,8 +1,8 @@
 // The board's line: board, status, watched sector, wired address.
 ghost use Rattle.std.specs.Prelude.{◌≡◌};
 ghost use Rattle.law.specs.Deciding.{Decides};
-ghost use Rattle.field.specs.Spelling.{noBytes, put_all};
-ghost use Rattle.line.specs.Boards.{spelledBoard, BoardOk, ReadsBoard, WroteBoard, boardFault};
+ghost use Rattle.field.specs.Spelling.{no_bytes, put_all};
+ghost use Rattle.line.specs.Boards.{spelled_board, BoardOk, ReadsBoard, WroteBoard, board_fault};
 ghost use Rattle.line.specs.Readers.{ReadsStatus, ReadsPlaces};
 
 use crate::numbers::{ADDRESS, BOARD, SECTOR, STATUS};
@@ -19,7 +19,7 @@ pub enum ReadBoard {
 
 // The number that a refusal tells.
 pub fn board_fault(r: ReadBoard) -> u32
-    ensures { result ≡ boardFault r }
+    ensures { result ≡ board_fault r }
 {
     match r {
         ReadBoard::Value(_, _) => 0,
@@ -113,7 +113,7 @@ fn in_range(b: Board) -> bool
 // The line of a board in range.
 fn put_board(b: Board) -> Spelling
     requires { BoardOk b }
-    ensures { result ≡ put_all noBytes (spelledBoard b) }
+    ensures { result ≡ put_all no_bytes (spelled_board b) }
 {
     let s1 = field::put_word(field::no_bytes(), b"board\t");
     let s2 = field::put_hex(s1, b.status);

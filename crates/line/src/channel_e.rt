@@ -1,8 +1,8 @@
 // The events of channel E: sta, b, cut, sto, end.
 ghost use Rattle.std.specs.Prelude.{◌≡◌};
 ghost use Rattle.field.specs.Spelling.{put_all};
-ghost use Rattle.line.specs.ChannelE.{spelledEeprom};
-ghost use Rattle.line.specs.Readers.{spelledBit, ReadsData, ReadsEeprom};
+ghost use Rattle.line.specs.ChannelE.{spelled_eeprom};
+ghost use Rattle.line.specs.Readers.{spelled_bit, ReadsData, ReadsEeprom};
 
 use crate::events::ReadEvent;
 use crate::numbers::{EVENT, FIRST, SECOND};
@@ -60,7 +60,7 @@ pub fn read_eeprom(text: &[u8], c: Cursor) -> ReadEvent
 }
 
 fn put_bit(s: Spelling, ack: bool) -> Spelling
-    ensures { result ≡ put_all s (spelledBit ack) }
+    ensures { result ≡ put_all s (spelled_bit ack) }
 {
     if ack {
         return field::put_word(s, b"\t1\n");
@@ -69,7 +69,7 @@ fn put_bit(s: Spelling, ack: bool) -> Spelling
 }
 
 pub fn put_eeprom(s: Spelling, e: EepromEvent) -> Spelling
-    ensures { result ≡ put_all s (spelledEeprom e) }
+    ensures { result ≡ put_all s (spelled_eeprom e) }
 {
     match e {
         EepromEvent::Start => field::put_word(s, b"sta\n"),

@@ -1,7 +1,7 @@
 // The events of channel F: sel, x, cut, des, end.
 ghost use Rattle.std.specs.Prelude.{◌≡◌};
 ghost use Rattle.field.specs.Spelling.{put_all};
-ghost use Rattle.line.specs.ChannelF.{spelledFlash};
+ghost use Rattle.line.specs.ChannelF.{spelled_flash};
 ghost use Rattle.line.specs.Readers.{ReadsPair, ReadsFlash};
 
 use crate::events::ReadEvent;
@@ -60,7 +60,7 @@ pub fn read_flash(text: &[u8], c: Cursor) -> ReadEvent
 }
 
 pub fn put_flash(s: Spelling, e: FlashEvent) -> Spelling
-    ensures { result ≡ put_all s (spelledFlash e) }
+    ensures { result ≡ put_all s (spelled_flash e) }
 {
     match e {
         FlashEvent::Select => field::put_word(s, b"sel\n"),

@@ -1,7 +1,7 @@
 // The events of channel L: on, off, lock, free.
 ghost use Rattle.std.specs.Prelude.{◌≡◌};
 ghost use Rattle.field.specs.Spelling.{put_all};
-ghost use Rattle.line.specs.ChannelL.{spelledLine};
+ghost use Rattle.line.specs.ChannelL.{spelled_line};
 ghost use Rattle.line.specs.Readers.{ReadsLine};
 
 use crate::events::ReadEvent;
@@ -29,7 +29,7 @@ pub fn read_line(text: &[u8], c: Cursor) -> ReadEvent
 }
 
 pub fn put_line(s: Spelling, e: LineEvent) -> Spelling
-    ensures { result ≡ put_all s (spelledLine e) }
+    ensures { result ≡ put_all s (spelled_line e) }
 {
     match e {
         LineEvent::SupplyOn => field::put_word(s, b"on\n"),

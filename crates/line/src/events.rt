@@ -1,6 +1,6 @@
 // An event that was read, of any channel.
 ghost use Rattle.std.specs.Prelude.{◌≡◌};
-ghost use Rattle.line.specs.Readers.{eventFault, ReadsLast};
+ghost use Rattle.line.specs.Readers.{event_fault, ReadsLast};
 
 use crate::numbers::EVENT;
 use field::{Cursor, FieldEnd, ReadEnd};
@@ -15,7 +15,7 @@ pub enum ReadEvent {
 
 // The number that a refusal tells.
 pub(crate) fn event_fault(r: ReadEvent) -> u32
-    ensures { result ≡ eventFault r }
+    ensures { result ≡ event_fault r }
 {
     match r {
         ReadEvent::Value(_, _) => 0,

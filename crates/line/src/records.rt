@@ -1,7 +1,7 @@
 // A record's line: stamp, channel, event.
 ghost use Rattle.std.specs.Prelude.{◌≡◌};
 ghost use Rattle.field.specs.Spelling.{put_all};
-ghost use Rattle.line.specs.Records.{spelledEvent, spelled, ReadsRecord, recordFault};
+ghost use Rattle.line.specs.Records.{spelled_event, spelled, ReadsRecord, record_fault};
 ghost use Rattle.line.specs.Readers.{ReadsEvent};
 ghost use Rattle.line.specs.Output.{Wrote};
 
@@ -20,7 +20,7 @@ pub enum ReadRecord {
 
 // The number that a refusal tells.
 pub fn record_fault(r: ReadRecord) -> u32
-    ensures { result ≡ recordFault r }
+    ensures { result ≡ record_fault r }
 {
     match r {
         ReadRecord::Value(_, _) => 0,
@@ -77,7 +77,7 @@ pub fn read_record(text: &[u8], c: Cursor) -> ReadRecord
 }
 
 fn put_event(s: Spelling, e: Event) -> Spelling
-    ensures { result ≡ put_all s (spelledEvent e) }
+    ensures { result ≡ put_all s (spelled_event e) }
 {
     match e {
         Event::Flash(f) => crate::channel_f::put_flash(field::put_word(s, b"F\t"), f),

@@ -4,31 +4,31 @@ use mathlib.Core.Path.{◌≡◌, sym, ap, ◌∙◌}
 use mathlib.Core.List.{List}
 use lib.ListN.{length}
 use borrow.Author.Tests.{eq-eqb, ne_eqb}
-use Rattle.record.specs.Lengths.{resultLength}
+use Rattle.record.specs.Lengths.{result_length}
 use Rattle.field.specs.declared.spelling.Spelling.{Spelling}
-use Rattle.field.specs.Spelling.{noBytes, put_all}
-use Rattle.listing.specs.Bytes.{answer_in, place_in, countIn, fieldIn}
-use Rattle.listing.specs.Lines.{refusedLine}
-use Rattle.listing.specs.Writing.{refusalOf, count_of}
+use Rattle.field.specs.Spelling.{no_bytes, put_all}
+use Rattle.listing.specs.Bytes.{answer_in, place_in, count_in, field_in}
+use Rattle.listing.specs.Lines.{refused_line}
+use Rattle.listing.specs.Writing.{refusal_of, count_of}
 
-module _ (result : List ℕ) (whole : length result ≡ resultLength) where
-  pub refusal-told : refusalOf result ≡ refusedLine (answer_in result) (place_in result) (fieldIn result)
-  unfolding refusalOf
-  refusal-told = simp (eq-eqb _ _ whole)
+module _ (result : List ℕ) (whole : length result ≡ result_length) where
+  pub refusal_told : refusal_of result ≡ refused_line (answer_in result) (place_in result) (field_in result)
+  unfolding refusal_of
+  refusal_told = simp (eq-eqb _ _ whole)
 
-  pub count-told : count_of result ≡ countIn result
+  pub count_told : count_of result ≡ count_in result
   unfolding count_of
-  count-told = simp (eq-eqb _ _ whole)
+  count_told = simp (eq-eqb _ _ whole)
 
   -- of the numbers that were read
-  pub refusal-read : {a n f : ℕ} {s : Spelling} → a ≡ answer_in result → n ≡ place_in result → f ≡ fieldIn result → s ≡ put_all noBytes (refusedLine a n f) → s ≡ put_all noBytes (refusalOf result)
-  refusal-read p q r e = e ∙ ap (put_all noBytes) ((λ i. refusedLine (p i) (q i) (r i)) ∙ sym refusal-told)
+  pub refusal_read : {a n f : ℕ} {s : Spelling} → a ≡ answer_in result → n ≡ place_in result → f ≡ field_in result → s ≡ put_all no_bytes (refused_line a n f) → s ≡ put_all no_bytes (refusal_of result)
+  refusal_read p q r e = e ∙ ap (put_all no_bytes) ((λ i. refused_line (p i) (q i) (r i)) ∙ sym refusal_told)
 
-module _ (result : List ℕ) (other : length result ≡ resultLength → ⊥) where
-  pub refusal-untold : {s : Spelling} → s ≡ noBytes → s ≡ put_all noBytes (refusalOf result)
-  unfolding refusalOf put_all
-  refusal-untold e = e ∙ simp (ne_eqb _ _ other)
+module _ (result : List ℕ) (other : length result ≡ result_length → ⊥) where
+  pub refusal_untold : {s : Spelling} → s ≡ no_bytes → s ≡ put_all no_bytes (refusal_of result)
+  unfolding refusal_of put_all
+  refusal_untold e = e ∙ simp (ne_eqb _ _ other)
 
-  pub count-untold : 0 ≡ count_of result
+  pub count_untold : 0 ≡ count_of result
   unfolding count_of
-  count-untold = simp (ne_eqb _ _ other)
+  count_untold = simp (ne_eqb _ _ other)

@@ -7,50 +7,50 @@ use Rattle.record.specs.declared.Match.{Match}
 use Rattle.record.specs.declared.Match.TheVariants.{Nothing, Agrees, Disagrees}
 use Rattle.field.specs.Decimal.{decimal}
 use Rattle.field.specs.Ends.{tab, lf}
-use Rattle.field.specs.Hex.{hexField}
-use Rattle.listing.specs.Words.{word_line, wordStamp, wordReply, wordMatch, dash, slash, wordAck, wordNo, wordStarts, wordEnds, wordIdle, point, equals, bang, wordSettled, wordStop, wordRefused}
+use Rattle.field.specs.Hex.{hex_field}
+use Rattle.listing.specs.Words.{word_line, word_stamp, word_reply, word_match, dash, slash, word_ack, word_no, word_starts, word_ends, word_idle, point, equals, bang, word_settled, word_stop, word_refused}
 
 -- line, stamp, reply, match
 unfoldable pub heading : List ℕ
-heading = word_line ++ (tab ++ (wordStamp ++ (tab ++ (wordReply ++ (tab ++ (wordMatch ++ lf))))))
+heading = word_line ++ (tab ++ (word_stamp ++ (tab ++ (word_reply ++ (tab ++ (word_match ++ lf))))))
 
 -- value/mask
-unfoldable pub byteText : ℕ → ℕ → List ℕ
-byteText v m = hexField v ++ (slash ++ hexField m)
+unfoldable pub byte_text : ℕ → ℕ → List ℕ
+byte_text v m = hex_field v ++ (slash ++ hex_field m)
 
 -- `-`, value/mask, `ack`, `no`, `starts`, `ends`, `idle`; a record that was not played has no line
-unfoldable pub replyText : Reply → List ℕ
-replyText NotPlayed = []
-replyText Silent = dash
-replyText (Byte v m) = byteText v m
-replyText Ack = wordAck
-replyText NoAck = wordNo
-replyText Starts = wordStarts
-replyText Ends = wordEnds
-replyText NoCycle = wordIdle
+unfoldable pub reply_text : Reply → List ℕ
+reply_text NotPlayed = []
+reply_text Silent = dash
+reply_text (Byte v m) = byte_text v m
+reply_text Ack = word_ack
+reply_text NoAck = word_no
+reply_text Starts = word_starts
+reply_text Ends = word_ends
+reply_text NoCycle = word_idle
 
 -- `.`, `=`, `!`
-unfoldable pub matchText : Match → List ℕ
-matchText Nothing = point
-matchText Agrees = equals
-matchText Disagrees = bang
+unfoldable pub match_text : Match → List ℕ
+match_text Nothing = point
+match_text Agrees = equals
+match_text Disagrees = bang
 
 -- line number, stamp, reply and match
-unfoldable pub recordLine : ℕ → ℕ → Reply → Match → List ℕ
-recordLine number stamp r m = decimal number ++ (tab ++ (decimal stamp ++ (tab ++ (replyText r ++ (tab ++ (matchText m ++ lf))))))
+unfoldable pub record_line : ℕ → ℕ → Reply → Match → List ℕ
+record_line number stamp r m = decimal number ++ (tab ++ (decimal stamp ++ (tab ++ (reply_text r ++ (tab ++ (match_text m ++ lf))))))
 
 -- `settled` and count
-unfoldable pub settledLine : ℕ → List ℕ
-settledLine count = wordSettled ++ (tab ++ (decimal count ++ lf))
+unfoldable pub settled_line : ℕ → List ℕ
+settled_line count = word_settled ++ (tab ++ (decimal count ++ lf))
 
 -- `stop`, number and stamp
-unfoldable pub stopLine : ℕ → ℕ → List ℕ
-stopLine number stamp = wordStop ++ (tab ++ (decimal number ++ (tab ++ (decimal stamp ++ lf))))
+unfoldable pub stop_line : ℕ → ℕ → List ℕ
+stop_line number stamp = word_stop ++ (tab ++ (decimal number ++ (tab ++ (decimal stamp ++ lf))))
 
 -- the last line of what was played: answer 0 is settled, any other is a stop
-unfoldable pub lastLine : ℕ → ℕ → ℕ → List ℕ
-lastLine answer stamp count = pick (eqb answer 0) (settledLine count) (stopLine answer stamp)
+unfoldable pub last_line : ℕ → ℕ → ℕ → List ℕ
+last_line answer stamp count = pick (eqb answer 0) (settled_line count) (stop_line answer stamp)
 
 -- `refused`, number, line, and 'the listing's refused line shows it fourth', the field
-unfoldable pub refusedLine : ℕ → ℕ → ℕ → List ℕ
-refusedLine number line field = wordRefused ++ (tab ++ (decimal number ++ (tab ++ (decimal line ++ (tab ++ (decimal field ++ lf))))))
+unfoldable pub refused_line : ℕ → ℕ → ℕ → List ℕ
+refused_line number line field = word_refused ++ (tab ++ (decimal number ++ (tab ++ (decimal line ++ (tab ++ (decimal field ++ lf))))))

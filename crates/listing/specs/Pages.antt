@@ -5,50 +5,50 @@ use Rattle.record.specs.declared.Chip.{Chip}
 use Rattle.record.specs.declared.Chip.TheVariants.{Flash, Eeprom}
 use Rattle.field.specs.Decimal.{decimal}
 use Rattle.field.specs.Ends.{tab, lf}
-use Rattle.times.specs.Times.{Time, never, written, Times, pagesOf, firstEntry, entryLength, timesLength}
-use Rattle.listing.specs.Words.{wordChip, wordPage, wordStamp, wordFlash, wordEeprom}
+use Rattle.times.specs.Times.{Time, never, written, Times, pages_of, first_entry, entry_length, times_length}
+use Rattle.listing.specs.Words.{word_chip, word_page, word_stamp, word_flash, word_eeprom}
 use Rattle.listing.specs.Bytes.{number_at}
-use Rattle.listing.specs.Listing.{listingWith, Formats}
+use Rattle.listing.specs.Listing.{listing_with, Formats}
 
 -- ---- the lines
 -- chip, page, stamp
-unfoldable pub pagesHeading : List ℕ
-pagesHeading = wordChip ++ (tab ++ (wordPage ++ (tab ++ (wordStamp ++ lf))))
+unfoldable pub pages_heading : List ℕ
+pages_heading = word_chip ++ (tab ++ (word_page ++ (tab ++ (word_stamp ++ lf))))
 
 -- `flash`, `eeprom`
-abbrev pub chipText : Chip → List ℕ
-chipText Flash = wordFlash
-chipText Eeprom = wordEeprom
+abbrev pub chip_text : Chip → List ℕ
+chip_text Flash = word_flash
+chip_text Eeprom = word_eeprom
 
 -- chip, page number and stamp
-unfoldable pub pageLine : Chip → ℕ → ℕ → List ℕ
-pageLine chip n stamp = chipText chip ++ (tab ++ (decimal n ++ (tab ++ (decimal stamp ++ lf))))
+unfoldable pub page_line : Chip → ℕ → ℕ → List ℕ
+page_line chip n stamp = chip_text chip ++ (tab ++ (decimal n ++ (tab ++ (decimal stamp ++ lf))))
 
 -- a page that was never written has no line
-unfoldable pub timeLine : Chip → ℕ → Time → List ℕ
-timeLine chip n never = []
-timeLine chip n (written stamp) = pageLine chip n stamp
+unfoldable pub time_line : Chip → ℕ → Time → List ℕ
+time_line chip n never = []
+time_line chip n (written stamp) = page_line chip n stamp
 
 -- a chip's first n pages, by rising number
-unfoldable pub linesBelow : Chip → (ℕ → Time) → ℕ → List ℕ
-linesBelow chip y zero = []
-linesBelow chip y (suc n) = linesBelow chip y n ++ timeLine chip n (y n)
+unfoldable pub lines_below : Chip → (ℕ → Time) → ℕ → List ℕ
+lines_below chip y zero = []
+lines_below chip y (suc n) = lines_below chip y n ++ time_line chip n (y n)
 
 -- all pages of both chips, the flash's first
-unfoldable pub writtenLines : Times → List ℕ
-writtenLines y = linesBelow Flash y.flash (pagesOf Flash) ++ linesBelow Eeprom y.eeprom (pagesOf Eeprom)
+unfoldable pub written_lines : Times → List ℕ
+written_lines y = lines_below Flash y.flash (pages_of Flash) ++ lines_below Eeprom y.eeprom (pages_of Eeprom)
 
 -- ---- what a table says
 -- of an entry: with the mark 0 never, else the stamp in the four bytes behind the mark
-unfoldable pub timeAt : List ℕ → ℕ → Time
-timeAt table e = pick (eqb (get_or table (entryLength * e) 0) 0) never (written (number_at table (entryLength * e + 1)))
+unfoldable pub time_at : List ℕ → ℕ → Time
+time_at table e = pick (eqb (get_or table (entry_length * e) 0) 0) never (written (number_at table (entry_length * e + 1)))
 
-abbrev pub timesIn : List ℕ → Times
-timesIn table = record { flash = λ n. timeAt table (firstEntry Flash + n); eeprom = λ n. timeAt table (firstEntry Eeprom + n) }
+abbrev pub times_in : List ℕ → Times
+times_in table = record { flash = λ n. time_at table (first_entry Flash + n); eeprom = λ n. time_at table (first_entry Eeprom + n) }
 
 -- ---- the listing
-abbrev pub pagesListing : List ℕ → List ℕ → List ℕ
-pagesListing table result = listingWith pagesHeading (writtenLines (timesIn table)) result
+abbrev pub pages_listing : List ℕ → List ℕ → List ℕ
+pages_listing table result = listing_with pages_heading (written_lines (times_in table)) result
 
 abbrev pub ListsPages : List ℕ → List ℕ → List ℕ → List ℕ → ℕ → Type 0
-ListsPages table result old new n = Formats timesLength table result (pagesListing table result) old new n
+ListsPages table result old new n = Formats times_length table result (pages_listing table result) old new n

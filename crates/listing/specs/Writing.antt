@@ -4,32 +4,32 @@ use Rattle.std.proofs.lemmas.List.Edits.{sets}
 use Rattle.law.specs.Words.{pick}
 use Rattle.record.specs.declared.Chip.{Chip}
 use Rattle.record.specs.declared.Record.{Record}
-use Rattle.record.specs.Lengths.{resultLength}
+use Rattle.record.specs.Lengths.{result_length}
 use Rattle.field.specs.Room.{room}
-use Rattle.times.specs.Times.{pagesOf, firstEntry}
-use Rattle.listing.specs.Bytes.{wasPlayed, replyAt, answer_in, place_in, countIn, fieldIn}
-use Rattle.listing.specs.Lines.{heading, refusedLine}
-use Rattle.listing.specs.Listing.{Listed, recordLines, listingRoom}
-use Rattle.listing.specs.Pages.{linesBelow, timeAt}
+use Rattle.times.specs.Times.{pages_of, first_entry}
+use Rattle.listing.specs.Bytes.{was_played, reply_at, answer_in, place_in, count_in, field_in}
+use Rattle.listing.specs.Lines.{heading, refused_line}
+use Rattle.listing.specs.Listing.{Listed, record_lines, listing_room}
+use Rattle.listing.specs.Pages.{lines_below, time_at}
 
 -- the records before the first that was not played; the first of them is record k
 unfoldable pub played : List ℕ → ℕ → List Record → List Record
 played replies k [] = []
-played replies k (r ∷ rs) = pick (wasPlayed (replyAt replies k)) (r ∷ played replies (suc k) rs) []
+played replies k (r ∷ rs) = pick (was_played (reply_at replies k)) (r ∷ played replies (suc k) rs) []
 
 -- The lines of the records of which P holds are written from a place on, and n is the place after them.
 pub record ListsRecords (P : List Record → Type 0) (replies old : List ℕ) (from : ℕ) (new : List ℕ) (n : ℕ) : Type 0 where
   pub records : List Record
   pub listed : P records
-  pub place : n ≡ from + length (recordLines replies 0 records)
-  pub content : new ≡ sets old from (recordLines replies 0 records)
+  pub place : n ≡ from + length (record_lines replies 0 records)
+  pub content : new ≡ sets old from (record_lines replies 0 records)
 
 -- The heading and the records' lines are written from the front on, and n is the place after them.
 pub record ListsPlayed (text replies old new : List ℕ) (n : ℕ) : Type 0 where
   pub records : List Record
   pub listed : Listed text replies records
-  pub place : n ≡ length (heading ++ recordLines replies 0 records)
-  pub content : new ≡ sets old 0 (heading ++ recordLines replies 0 records)
+  pub place : n ≡ length (heading ++ record_lines replies 0 records)
+  pub content : new ≡ sets old 0 (heading ++ record_lines replies 0 records)
 
 -- The lines w, so many at most, are written from a place on, and n is the place after them.
 pub record ListsLines (w old : List ℕ) (from most : ℕ) (new : List ℕ) (n : ℕ) : Type 0 where
@@ -38,16 +38,16 @@ pub record ListsLines (w old : List ℕ) (from most : ℕ) (new : List ℕ) (n :
   pub space : n ≤ from + room * most
 
 -- the lines of a chip's pages that the table tells as written
-abbrev pub chipLines : Chip → List ℕ → List ℕ
-chipLines chip table = linesBelow chip (λ n. timeAt table (firstEntry chip + n)) (pagesOf chip)
+abbrev pub chip_lines : Chip → List ℕ → List ℕ
+chip_lines chip table = lines_below chip (λ n. time_at table (first_entry chip + n)) (pages_of chip)
 
 -- is the result of its length, and has an output of so many bytes room for any listing?
-unfoldable pub isReady : List ℕ → ℕ → Bool
-isReady result bytes = pick (eqb (length result) resultLength) (pick (ltb bytes listingRoom) false true) false
+unfoldable pub is_ready : List ℕ → ℕ → Bool
+is_ready result bytes = pick (eqb (length result) result_length) (pick (ltb bytes listing_room) false true) false
 
 -- of a result of its length: the line of the refusal that it tells, and its count; of any other nothing
-unfoldable pub refusalOf : List ℕ → List ℕ
-refusalOf result = pick (eqb (length result) resultLength) (refusedLine (answer_in result) (place_in result) (fieldIn result)) []
+unfoldable pub refusal_of : List ℕ → List ℕ
+refusal_of result = pick (eqb (length result) result_length) (refused_line (answer_in result) (place_in result) (field_in result)) []
 
 unfoldable pub count_of : List ℕ → ℕ
-count_of result = pick (eqb (length result) resultLength) (countIn result) 0
+count_of result = pick (eqb (length result) result_length) (count_in result) 0

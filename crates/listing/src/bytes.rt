@@ -1,12 +1,12 @@
 // What the lent bytes of a replay say: a record's reply in four bytes, the numbers of the result (document 01, 'Replies and stopping').
 ghost use Rattle.std.specs.Prelude.{◌≡◌, ◌+◌, ◌*◌, ◌≤◌, ◌<◌, length};
-ghost use Rattle.record.specs.ReplyOf.{replyOf};
-ghost use Rattle.listing.specs.Bytes.{match_of, wasPlayed, replyAt, matchAt, number_at, isRefusal};
+ghost use Rattle.record.specs.ReplyOf.{reply_of};
+ghost use Rattle.listing.specs.Bytes.{match_of, was_played, reply_at, match_at, number_at, is_refusal};
 
 use record::{Match, Reply};
 
 fn reply_of(kind: u8, value: u8, mask: u8) -> Reply
-    ensures { result ≡ replyOf kind value mask }
+    ensures { result ≡ reply_of kind value mask }
 {
     if kind == 1 {
         return Reply::Silent;
@@ -45,7 +45,7 @@ fn match_of(number: u8) -> Match
 }
 
 pub(crate) fn was_played(reply: Reply) -> bool
-    ensures { result ≡ wasPlayed reply }
+    ensures { result ≡ was_played reply }
 {
     match reply {
         Reply::NotPlayed => false,
@@ -62,7 +62,7 @@ pub(crate) fn was_played(reply: Reply) -> bool
 // The reply of record k.
 pub(crate) fn reply_at(replies: &[u8], k: usize) -> Reply
     requires { 4 * k + 4 ≤ length replies.now }
-    ensures { result ≡ replyAt replies.now k }
+    ensures { result ≡ reply_at replies.now k }
 {
     let at = 4 * k;
     reply_of(replies[at], replies[at + 1], replies[at + 2])
@@ -71,7 +71,7 @@ pub(crate) fn reply_at(replies: &[u8], k: usize) -> Reply
 // The match of record k.
 pub(crate) fn match_at(replies: &[u8], k: usize) -> Match
     requires { 4 * k + 4 ≤ length replies.now }
-    ensures { result ≡ matchAt replies.now k }
+    ensures { result ≡ match_at replies.now k }
 {
     match_of(replies[4 * k + 3])
 }
@@ -96,7 +96,7 @@ pub(crate) fn number_at(bytes: &[u8], at: usize) -> u32
 
 // Answers 1 to 5 are the refusals.
 pub(crate) fn is_refusal(answer: u32) -> bool
-    ensures { result ≡ isRefusal answer }
+    ensures { result ≡ is_refusal answer }
 {
     if answer == 0 {
         return false;

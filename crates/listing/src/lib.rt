@@ -2,8 +2,8 @@
 // page that was written (document 02, request 1/12), and a last line; or a refusal alone.
 ghost use Rattle.std.specs.Prelude.{◌≡◌, ◌≤◌, length};
 ghost use Rattle.field.specs.Room.{room};
-ghost use Rattle.record.specs.Lengths.{repliesLength};
-ghost use Rattle.listing.specs.Listing.{Listed, ListedFrom, Lists, listingRoom};
+ghost use Rattle.record.specs.Lengths.{replies_length};
+ghost use Rattle.listing.specs.Listing.{Listed, ListedFrom, Lists, listing_room};
 ghost use Rattle.listing.specs.Pages.{ListsPages};
 ghost use Rattle.listing.specs.Writing.{ListsPlayed, ListsRecords};
 
@@ -22,7 +22,7 @@ pub const ROOM: usize = field::ROOM * (record::REPLY_PLACES + 2);
 
 // A line for each record that was played, of those that stand from the first on; written from a place of the output on. The place after them.
 fn list_from(text: &[u8], first: Cursor, replies: &[u8], out: &mut [u8], from: usize) -> usize
-    requires { (length replies.now ≡ repliesLength) × (from ≤ room) × (listingRoom ≤ length out.old) }
+    requires { (length replies.now ≡ replies_length) × (from ≤ room) × (listing_room ≤ length out.old) }
     ensures { ListsRecords (ListedFrom text.now replies.now first.at 0) replies.now out.old from out.new result }
 {
     let mut at = from;
@@ -48,7 +48,7 @@ fn list_from(text: &[u8], first: Cursor, replies: &[u8], out: &mut [u8], from: u
 
 // The same of the records behind the board's line; no board, no record.
 fn list_records(text: &[u8], replies: &[u8], out: &mut [u8], from: usize) -> usize
-    requires { (length replies.now ≡ repliesLength) × (from ≤ room) × (listingRoom ≤ length out.old) }
+    requires { (length replies.now ≡ replies_length) × (from ≤ room) × (listing_room ≤ length out.old) }
     ensures { ListsRecords (Listed text.now replies.now) replies.now out.old from out.new result }
 {
     let ReadBoard::Value(_, first) = line::read_board(text, Cursor { at: 0 }) else {
@@ -59,7 +59,7 @@ fn list_records(text: &[u8], replies: &[u8], out: &mut [u8], from: usize) -> usi
 
 // The heading and the records' lines; the place after them.
 fn list_played(text: &[u8], replies: &[u8], out: &mut [u8]) -> usize
-    requires { (length replies.now ≡ repliesLength) × (listingRoom ≤ length out.old) }
+    requires { (length replies.now ≡ replies_length) × (listing_room ≤ length out.old) }
     ensures { ListsPlayed text.now replies.now out.old out.new result }
 {
     let from = output::copy_line(lines::heading_line(), out, 0);

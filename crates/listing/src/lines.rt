@@ -1,21 +1,21 @@
 // The lines of the listings, each put together before it is copied out.
 ghost use Rattle.std.specs.Prelude.{◌≡◌};
-ghost use Rattle.field.specs.Spelling.{noBytes, put_all};
-ghost use Rattle.listing.specs.Pages.{pagesHeading, chipText, pageLine};
-ghost use Rattle.listing.specs.Lines.{heading, byteText, replyText, matchText, recordLine, settledLine, stopLine, lastLine, refusedLine};
+ghost use Rattle.field.specs.Spelling.{no_bytes, put_all};
+ghost use Rattle.listing.specs.Pages.{pages_heading, chip_text, page_line};
+ghost use Rattle.listing.specs.Lines.{heading, byte_text, reply_text, match_text, record_line, settled_line, stop_line, last_line, refused_line};
 
 use field::Spelling;
 use record::{Chip, Match, Reply};
 
 pub fn heading_line() -> Spelling
-    ensures { result ≡ put_all noBytes heading }
+    ensures { result ≡ put_all no_bytes heading }
 {
     field::put_word(field::no_bytes(), b"line\tstamp\treply\tmatch\n")
 }
 
 // value/mask
 fn put_byte(s: Spelling, value: u8, mask: u8) -> Spelling
-    ensures { result ≡ put_all s (byteText value mask) }
+    ensures { result ≡ put_all s (byte_text value mask) }
 {
     let s1 = field::put_hex(s, value);
     let s2 = field::put_word(s1, b"/");
@@ -23,7 +23,7 @@ fn put_byte(s: Spelling, value: u8, mask: u8) -> Spelling
 }
 
 fn put_reply(s: Spelling, reply: Reply) -> Spelling
-    ensures { result ≡ put_all s (replyText reply) }
+    ensures { result ≡ put_all s (reply_text reply) }
 {
     match reply {
         Reply::NotPlayed => s,
@@ -38,7 +38,7 @@ fn put_reply(s: Spelling, reply: Reply) -> Spelling
 }
 
 fn put_match(s: Spelling, found: Match) -> Spelling
-    ensures { result ≡ put_all s (matchText found) }
+    ensures { result ≡ put_all s (match_text found) }
 {
     match found {
         Match::Nothing => field::put_word(s, b"."),
@@ -49,7 +49,7 @@ fn put_match(s: Spelling, found: Match) -> Spelling
 
 // Line number, stamp, reply and match.
 pub fn record_line(number: u32, stamp: u32, reply: Reply, found: Match) -> Spelling
-    ensures { result ≡ put_all noBytes (recordLine number stamp reply found) }
+    ensures { result ≡ put_all no_bytes (record_line number stamp reply found) }
 {
     let s1 = field::put_decimal(field::no_bytes(), number);
     let s2 = field::put_word(s1, b"\t");
@@ -62,7 +62,7 @@ pub fn record_line(number: u32, stamp: u32, reply: Reply, found: Match) -> Spell
 }
 
 fn settled_line(count: u32) -> Spelling
-    ensures { result ≡ put_all noBytes (settledLine count) }
+    ensures { result ≡ put_all no_bytes (settled_line count) }
 {
     let s1 = field::put_word(field::no_bytes(), b"settled\t");
     let s2 = field::put_decimal(s1, count);
@@ -70,7 +70,7 @@ fn settled_line(count: u32) -> Spelling
 }
 
 fn stop_line(number: u32, stamp: u32) -> Spelling
-    ensures { result ≡ put_all noBytes (stopLine number stamp) }
+    ensures { result ≡ put_all no_bytes (stop_line number stamp) }
 {
     let s1 = field::put_word(field::no_bytes(), b"stop\t");
     let s2 = field::put_decimal(s1, number);
@@ -81,7 +81,7 @@ fn stop_line(number: u32, stamp: u32) -> Spelling
 
 // The last line of what was played.
 pub fn last_line(answer: u32, stamp: u32, count: u32) -> Spelling
-    ensures { result ≡ put_all noBytes (lastLine answer stamp count) }
+    ensures { result ≡ put_all no_bytes (last_line answer stamp count) }
 {
     if answer == 0 {
         return settled_line(count);
@@ -91,7 +91,7 @@ pub fn last_line(answer: u32, stamp: u32, count: u32) -> Spelling
 
 // A refusal's number, its line, and the line's first bad field.
 pub fn refused_line(number: u32, line: u32, bad: u32) -> Spelling
-    ensures { result ≡ put_all noBytes (refusedLine number line bad) }
+    ensures { result ≡ put_all no_bytes (refused_line number line bad) }
 {
     let s1 = field::put_word(field::no_bytes(), b"refused\t");
     let s2 = field::put_decimal(s1, number);
@@ -103,13 +103,13 @@ pub fn refused_line(number: u32, line: u32, bad: u32) -> Spelling
 }
 
 pub fn pages_heading_line() -> Spelling
-    ensures { result ≡ put_all noBytes pagesHeading }
+    ensures { result ≡ put_all no_bytes pages_heading }
 {
     field::put_word(field::no_bytes(), b"chip\tpage\tstamp\n")
 }
 
 fn put_chip(s: Spelling, chip: Chip) -> Spelling
-    ensures { result ≡ put_all s (chipText chip) }
+    ensures { result ≡ put_all s (chip_text chip) }
 {
     match chip {
         Chip::Flash => field::put_word(s, b"flash"),
@@ -119,7 +119,7 @@ fn put_chip(s: Spelling, chip: Chip) -> Spelling
 
 // Chip, page number and stamp.
 pub fn page_line(chip: Chip, number: u32, stamp: u32) -> Spelling
-    ensures { result ≡ put_all noBytes (pageLine chip number stamp) }
+    ensures { result ≡ put_all no_bytes (page_line chip number stamp) }
 {
     let s1 = put_chip(field::no_bytes(), chip);
     let s2 = field::put_word(s1, b"\t");

@@ -6,59 +6,59 @@ use Rattle.record.specs.declared.Chip.{Chip}
 use Rattle.record.specs.declared.Event.{Event}
 use Rattle.record.specs.declared.Skeleton.{Skeleton}
 use Rattle.image.specs.Image.{Image}
-use Rattle.image.specs.Images.{Images, imageAt}
-use Rattle.image.specs.Cycles.{programPage, cutProgramPage, eraseAll, cutEraseAll, storePage, cutStorePage}
+use Rattle.image.specs.Images.{Images, image_at}
+use Rattle.image.specs.Cycles.{program_page, cut_program_page, erase_all, cut_erase_all, store_page, cut_store_page}
 use Rattle.times.specs.declared.Pages.{Pages}
 use Rattle.times.specs.declared.Pages.TheVariants as pages
-use Rattle.times.specs.Times.{onPages}
+use Rattle.times.specs.Times.{on_pages}
 use Rattle.flash.specs.declared.Flash.{Flash}
 use Rattle.eeprom.specs.declared.Eeprom.{Eeprom}
 use Rattle.eeprom.specs.declared.Sent.{Sent}
 use Rattle.controls.specs.declared.Controls.{Controls}
 use Rattle.machine.specs.declared.effects.Stroke.{Stroke}
 use Rattle.machine.specs.declared.effects.Stroke.TheVariants.{Nothing, Whole, Cut}
-use Rattle.machine.specs.Effects.{strokeFor, flashTouched, eepromTouched, programBy, eraseBy, sentIn, storeBy, flashAfter, eepromAfter, imagesAfter}
+use Rattle.machine.specs.Effects.{stroke_for, flash_touched, eeprom_touched, program_by, erase_by, sent_in, store_by, flash_after, eeprom_after, images_after}
 
 -- P is kept by what each cycle makes of an image
 pub record EachCycle (P : Image → Type 0) : Type 0 where
-  pub program : (number : ℕ) (bytes : List ℕ) (i : Image) → P i → P (programPage number bytes i)
-  pub cut-program : (number : ℕ) (bytes : List ℕ) (i : Image) → P i → P (cutProgramPage number bytes i)
-  pub erase : (i : Image) → P i → P (eraseAll i)
-  pub cut-erase : (i : Image) → P i → P (cutEraseAll i)
-  pub store : (number first count : ℕ) (bytes : List ℕ) (i : Image) → P i → P (storePage number first count bytes i)
-  pub cut-store : (number : ℕ) (i : Image) → P i → P (cutStorePage number i)
+  pub program : (number : ℕ) (bytes : List ℕ) (i : Image) → P i → P (program_page number bytes i)
+  pub cut_program : (number : ℕ) (bytes : List ℕ) (i : Image) → P i → P (cut_program_page number bytes i)
+  pub erase : (i : Image) → P i → P (erase_all i)
+  pub cut_erase : (i : Image) → P i → P (cut_erase_all i)
+  pub store : (number first count : ℕ) (bytes : List ℕ) (i : Image) → P i → P (store_page number first count bytes i)
+  pub cut_store : (number : ℕ) (i : Image) → P i → P (cut_store_page number i)
 
 module _ {P : Image → Type 0} (each : EachCycle P) (i : Image) (h : P i) where
   -- on the pages that a stroke touches
-  on-pages : (one : ℕ → Image → Image) (all : Image → Image) (p : Pages) → ((n : ℕ) → P (one n i)) → P (all i) → P (onPages one all p i)
-  on-pages one all pages.None k g = h
-  on-pages one all (pages.One n) k g = k n
-  on-pages one all pages.All k g = g
+  on_pages_lem : (one : ℕ → Image → Image) (all : Image → Image) (p : Pages) → ((n : ℕ) → P (one n i)) → P (all i) → P (on_pages one all p i)
+  on_pages_lem one all pages.None k g = h
+  on_pages_lem one all (pages.One n) k g = k n
+  on_pages_lem one all pages.All k g = g
 
-  program-by : (s : Stroke) (bytes : List ℕ) (n : ℕ) → P (programBy s bytes n i)
-  program-by Nothing bytes n = h
-  program-by Whole bytes n = each.program n bytes i h
-  program-by Cut bytes n = each.cut-program n bytes i h
+  program_by_lem : (s : Stroke) (bytes : List ℕ) (n : ℕ) → P (program_by s bytes n i)
+  program_by_lem Nothing bytes n = h
+  program_by_lem Whole bytes n = each.program n bytes i h
+  program_by_lem Cut bytes n = each.cut_program n bytes i h
 
-  erase-by : (s : Stroke) → P (eraseBy s i)
-  erase-by Nothing = h
-  erase-by Whole = each.erase i h
-  erase-by Cut = each.cut-erase i h
+  erase_by_lem : (s : Stroke) → P (erase_by s i)
+  erase_by_lem Nothing = h
+  erase_by_lem Whole = each.erase i h
+  erase_by_lem Cut = each.cut_erase i h
 
-  store_by : (s : Stroke) (sent : Sent) (bytes : List ℕ) (n : ℕ) → P (storeBy s sent bytes n i)
-  store_by Nothing sent bytes n = h
-  store_by Whole sent bytes n = each.store n sent.first sent.count bytes i h
-  store_by Cut sent bytes n = each.cut-store n i h
+  store_by_lem : (s : Stroke) (sent : Sent) (bytes : List ℕ) (n : ℕ) → P (store_by s sent bytes n i)
+  store_by_lem Nothing sent bytes n = h
+  store_by_lem Whole sent bytes n = each.store n sent.first sent.count bytes i h
+  store_by_lem Cut sent bytes n = each.cut_store n i h
 
-  flash-after : (s : Stroke) (watched : ℕ) (x : Flash) → P (flashAfter s watched x i)
-  unfolding flashAfter
-  flash-after s watched x = on-pages _ _ (flashTouched s watched x) (program-by s x.page) (erase-by s)
+  flash_after_lem : (s : Stroke) (watched : ℕ) (x : Flash) → P (flash_after s watched x i)
+  unfolding flash_after
+  flash_after_lem s watched x = on_pages_lem _ _ (flash_touched s watched x) (program_by_lem s x.page) (erase_by_lem s)
 
-  eeprom-after : (s : Stroke) (x : Eeprom) → P (eepromAfter s x i)
-  unfolding eepromAfter
-  eeprom-after s x = on-pages _ _ (eepromTouched s x) (store_by s (sentIn x.cycle) x.page) h
+  eeprom_after_lem : (s : Stroke) (x : Eeprom) → P (eeprom_after s x i)
+  unfolding eeprom_after
+  eeprom_after_lem s x = on_pages_lem _ _ (eeprom_touched s x) (store_by_lem s (sent_in x.cycle) x.page) h
 
-pub images-keep : (P : Chip → Image → Type 0) → ((chip : Chip) → EachCycle (P chip)) → (b : Board) (c : Controls) (v : Event) (k : Skeleton) (x : Images) →
-    ((chip : Chip) → P chip (imageAt chip x)) → (chip : Chip) → P chip (imageAt chip (imagesAfter b c v k x))
-images-keep P each b c v k x h Chip.Flash = flash-after (each Chip.Flash) x.flash (h Chip.Flash) (strokeFor Chip.Flash c.lines v k) b.sector c.flash
-images-keep P each b c v k x h Chip.Eeprom = eeprom-after (each Chip.Eeprom) x.eeprom (h Chip.Eeprom) (strokeFor Chip.Eeprom c.lines v k) c.eeprom
+pub images_keep : (P : Chip → Image → Type 0) → ((chip : Chip) → EachCycle (P chip)) → (b : Board) (c : Controls) (v : Event) (k : Skeleton) (x : Images) →
+    ((chip : Chip) → P chip (image_at chip x)) → (chip : Chip) → P chip (image_at chip (images_after b c v k x))
+images_keep P each b c v k x h Chip.Flash = flash_after_lem (each Chip.Flash) x.flash (h Chip.Flash) (stroke_for Chip.Flash c.lines v k) b.sector c.flash
+images_keep P each b c v k x h Chip.Eeprom = eeprom_after_lem (each Chip.Eeprom) x.eeprom (h Chip.Eeprom) (stroke_for Chip.Eeprom c.lines v k) c.eeprom

@@ -9,11 +9,11 @@ use Rattle.record.specs.declared.Event.TheVariants as event
 use Rattle.record.specs.declared.Reply.{Reply}
 use Rattle.record.specs.declared.Skeleton.{Skeleton}
 use Rattle.controls.specs.declared.Controls.{Controls}
-use Rattle.controls.specs.Play.{start_of, movedOf, lostOf}
+use Rattle.controls.specs.Play.{start_of, moved_of, lost_of}
 use Rattle.image.specs.Image.{Image}
-use Rattle.image.specs.Images.{Images, perChip}
-use Rattle.times.specs.Times.{reaches, Times, neverWritten, timesAfter}
-use Rattle.machine.specs.Effects.{imagesAfter, touchedBy}
+use Rattle.image.specs.Images.{Images, per_chip}
+use Rattle.times.specs.Times.{reaches, Times, never_written, times_after}
+use Rattle.machine.specs.Effects.{images_after, touched_by}
 use Rattle.machine.specs.Replies.{delivered}
 
 -- 'Demand 3's state gains these stamps' (request 1/12)
@@ -26,50 +26,50 @@ abbrev pub machine_of : Controls → Images → Times → Machine
 machine_of c x y = record { controls = c; images = x; times = y }
 
 -- 'Bytes and doubt': the start, with the images as they are lent; no page has been written yet
-abbrev pub machineAtStart : Board → Images → Machine
-machineAtStart b x = machine_of (start_of b) x neverWritten
+abbrev pub machine_at_start : Board → Images → Machine
+machine_at_start b x = machine_of (start_of b) x never_written
 
-abbrev pub channelOf : Event → Channel
-channelOf (event.Flash e) = F
-channelOf (event.Eeprom e) = E
-channelOf (event.Line e) = L
+abbrev pub channel_of : Event → Channel
+channel_of (event.Flash e) = F
+channel_of (event.Eeprom e) = E
+channel_of (event.Line e) = L
 
 -- the image that an event's reply is delivered from; a line record reads none
-abbrev pub imageFor : Event → Images → Image
-imageFor (event.Flash e) x = x.flash
-imageFor (event.Eeprom e) x = x.eeprom
-imageFor (event.Line e) x = x.flash
+abbrev pub image_for : Event → Images → Image
+image_for (event.Flash e) x = x.flash
+image_for (event.Eeprom e) x = x.eeprom
+image_for (event.Line e) x = x.flash
 
 -- does the record r, met by the controls c, end or cut a cycle on page n of the chip?
-abbrev pub writesPage : Board → Controls → Record → Chip → ℕ → Bool
-writesPage b c r chip n =
-    let x = touchedBy b c r.event (movedOf b c r).reply in
-    reaches (perChip x.flash x.eeprom chip) n
+abbrev pub writes_page : Board → Controls → Record → Chip → ℕ → Bool
+writes_page b c r chip n =
+    let x = touched_by b c r.event (moved_of b c r).reply in
+    reaches (per_chip x.flash x.eeprom chip) n
 
-unfoldable pub playOn : Board → Machine → Record → Machine
-playOn b m r =
-    machine_of (movedOf b m.controls r).controls (imagesAfter b m.controls r.event (movedOf b m.controls r).reply m.images)
-    (timesAfter r.stamp (touchedBy b m.controls r.event (movedOf b m.controls r).reply) m.times)
+unfoldable pub play_on : Board → Machine → Record → Machine
+play_on b m r =
+    machine_of (moved_of b m.controls r).controls (images_after b m.controls r.event (moved_of b m.controls r).reply m.images)
+    (times_after r.stamp (touched_by b m.controls r.event (moved_of b m.controls r).reply) m.times)
 
-unfoldable pub saysOn : Board → Machine → Record → Reply
-saysOn b m r = delivered (imageFor r.event m.images) (movedOf b m.controls r).reply
+unfoldable pub says_on : Board → Machine → Record → Reply
+says_on b m r = delivered (image_for r.event m.images) (moved_of b m.controls r).reply
 
 -- the machine that demand 3 is about
-abbrev pub onMachine : Board → Rules Record Machine Reply
-onMachine b = record {
-  channel = λ r. channelOf r.event;
+abbrev pub on_machine : Board → Rules Record Machine Reply
+on_machine b = record {
+  channel = λ r. channel_of r.event;
   stamp = λ r. r.stamp;
-  play = playOn b;
-  says = saysOn b;
-  lost = λ m. lostOf m.controls;
+  play = play_on b;
+  says = says_on b;
+  lost = λ m. lost_of m.controls;
 }
 
 -- and the controls by themselves: no image, no page's time, and a byte that is read is told by its place
-abbrev pub onControls : Board → Rules Record Controls Skeleton
-onControls b = record {
-  channel = λ r. channelOf r.event;
+abbrev pub on_controls : Board → Rules Record Controls Skeleton
+on_controls b = record {
+  channel = λ r. channel_of r.event;
   stamp = λ r. r.stamp;
-  play = λ c r. (movedOf b c r).controls;
-  says = λ c r. (movedOf b c r).reply;
-  lost = lostOf;
+  play = λ c r. (moved_of b c r).controls;
+  says = λ c r. (moved_of b c r).reply;
+  lost = lost_of;
 }

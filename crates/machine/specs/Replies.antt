@@ -13,7 +13,7 @@ use Rattle.record.specs.declared.Reply.{Reply}
 use Rattle.record.specs.declared.Reply.TheVariants as reply
 use Rattle.record.specs.declared.Match.{Match}
 use Rattle.record.specs.declared.Match.TheVariants.{Nothing, Agrees, Disagrees}
-use Rattle.cell.specs.Rules.{agreesCell}
+use Rattle.cell.specs.Rules.{agrees_cell}
 use Rattle.image.specs.Image.{Image, cell_at}
 
 -- a fetched byte comes with its mask; a status or identification byte is sure
@@ -28,42 +28,42 @@ delivered i skeleton.Ends = reply.Ends
 delivered i skeleton.NoCycle = reply.NoCycle
 
 -- what was recorded is the same, or it is not
-abbrev pub agreesIf : Bool → Match
-agreesIf same = pick same Agrees Disagrees
+abbrev pub agrees_if : Bool → Match
+agrees_if same = pick same Agrees Disagrees
 
 -- a read is compared on its sure bits only; where none is sure there is nothing to compare
-abbrev pub comparedByte : ℕ → ℕ → ℕ → Match
-comparedByte v m seen = pick (eqb m 255) Nothing (agreesIf (agreesCell (record { value = v; mask = m }) seen))
+abbrev pub compared_byte : ℕ → ℕ → ℕ → Match
+compared_byte v m seen = pick (eqb m 255) Nothing (agrees_if (agrees_cell (record { value = v; mask = m }) seen))
 
 -- by the byte that a record has, and what an acknowledge and its lack compare as
-abbrev pub comparedTo : ℕ → Match → Match → Reply → Match
-comparedTo seen ack lack reply.NotPlayed = Nothing
-comparedTo seen ack lack reply.Silent = Nothing
-comparedTo seen ack lack (reply.Byte v m) = comparedByte v m seen
-comparedTo seen ack lack reply.Ack = ack
-comparedTo seen ack lack reply.NoAck = lack
-comparedTo seen ack lack reply.Starts = Nothing
-comparedTo seen ack lack reply.Ends = Nothing
-comparedTo seen ack lack reply.NoCycle = Nothing
+abbrev pub compared_to : ℕ → Match → Match → Reply → Match
+compared_to seen ack lack reply.NotPlayed = Nothing
+compared_to seen ack lack reply.Silent = Nothing
+compared_to seen ack lack (reply.Byte v m) = compared_byte v m seen
+compared_to seen ack lack reply.Ack = ack
+compared_to seen ack lack reply.NoAck = lack
+compared_to seen ack lack reply.Starts = Nothing
+compared_to seen ack lack reply.Ends = Nothing
+compared_to seen ack lack reply.NoCycle = Nothing
 
 -- a flash record has SO, and no acknowledge bit
-abbrev pub flashSeen : FlashEvent → Reply → Match
-flashSeen flash-event.Select r = Nothing
-flashSeen (flash-event.Byte si so) r = comparedTo so Nothing Nothing r
-flashSeen flash-event.Cut r = Nothing
-flashSeen flash-event.Deselect r = Nothing
-flashSeen flash-event.End r = Nothing
+abbrev pub flash_seen : FlashEvent → Reply → Match
+flash_seen flash-event.Select r = Nothing
+flash_seen (flash-event.Byte si so) r = compared_to so Nothing Nothing r
+flash_seen flash-event.Cut r = Nothing
+flash_seen flash-event.Deselect r = Nothing
+flash_seen flash-event.End r = Nothing
 
 -- an EEPROM record has a byte and an acknowledge bit: 0 acknowledged, 1 not
-abbrev pub eepromSeen : EepromEvent → Reply → Match
-eepromSeen eeprom-event.Start r = Nothing
-eepromSeen (eeprom-event.Byte b bit) r = comparedTo b (agreesIf (not bit)) (agreesIf bit) r
-eepromSeen eeprom-event.Cut r = Nothing
-eepromSeen eeprom-event.Stop r = Nothing
-eepromSeen eeprom-event.End r = Nothing
+abbrev pub eeprom_seen : EepromEvent → Reply → Match
+eeprom_seen eeprom-event.Start r = Nothing
+eeprom_seen (eeprom-event.Byte b bit) r = compared_to b (agrees_if (not bit)) (agrees_if bit) r
+eeprom_seen eeprom-event.Cut r = Nothing
+eeprom_seen eeprom-event.Stop r = Nothing
+eeprom_seen eeprom-event.End r = Nothing
 
 -- the match of a reply to a record
 unfoldable pub compared : Event → Reply → Match
-compared (event.Flash e) r = flashSeen e r
-compared (event.Eeprom e) r = eepromSeen e r
+compared (event.Flash e) r = flash_seen e r
+compared (event.Eeprom e) r = eeprom_seen e r
 compared (event.Line e) r = Nothing

@@ -3,12 +3,12 @@ use Rattle.record.specs.declared.Board.{Board}
 use Rattle.record.specs.declared.Record.{Record}
 use Rattle.record.specs.declared.Reply.{Reply}
 use Rattle.controls.specs.declared.Controls.{Controls}
-use Rattle.controls.specs.Play.{movedOf}
+use Rattle.controls.specs.Play.{moved_of}
 use Rattle.image.specs.Images.{Images}
 use Rattle.times.specs.declared.Touched.{Touched}
-use Rattle.machine.specs.Effects.{imagesAfter, touchedBy}
+use Rattle.machine.specs.Effects.{images_after, touched_by}
 use Rattle.machine.specs.Replies.{delivered}
-use Rattle.machine.specs.Machine.{imageFor}
+use Rattle.machine.specs.Machine.{image_for}
 
 -- the controls and the images after the record, its reply, and the pages that it touches
 pub record Turn : Type 0 where
@@ -22,5 +22,5 @@ turn c x y t = record { controls = c; images = x; reply = y; touched = t }
 
 unfoldable pub turn_of : Board → Controls → Images → Record → Turn
 turn_of b c x r =
-    let m = movedOf b c r in
-    turn m.controls (imagesAfter b c r.event m.reply x) (delivered (imageFor r.event x) m.reply) (touchedBy b c r.event m.reply)
+    let m = moved_of b c r in
+    turn m.controls (images_after b c r.event m.reply x) (delivered (image_for r.event x) m.reply) (touched_by b c r.event m.reply)

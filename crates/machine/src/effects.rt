@@ -1,9 +1,9 @@
 // What a record does to the chips' cycles, which pages it touches so, and what becomes of the images there.
 ghost use Rattle.std.specs.Prelude.{◌≡◌};
 ghost use Rattle.image.specs.Image.{image_of};
-ghost use Rattle.image.specs.Images.{perChip};
-ghost use Rattle.times.specs.Times.{onPages};
-ghost use Rattle.machine.specs.Effects.{strokeOf, lineStroke, strokeFor, reached, flashPages, eepromPages, strokePages, programBy, eraseBy, sentIn, storeBy};
+ghost use Rattle.image.specs.Images.{per_chip};
+ghost use Rattle.times.specs.Times.{on_pages};
+ghost use Rattle.machine.specs.Effects.{stroke_of, line_stroke, stroke_for, reached, flash_pages, eeprom_pages, stroke_pages, program_by, erase_by, sent_in, store_by};
 
 use eeprom::{Eeprom, EepromCycle, EepromPage, Sent};
 use flash::{Flash, FlashCycle, FlashPage, FlashStatus};
@@ -19,7 +19,7 @@ pub enum Stroke {
 }
 
 fn stroke_of(k: Skeleton) -> Stroke
-    ensures { result ≡ strokeOf k }
+    ensures { result ≡ stroke_of k }
 {
     match k {
         Skeleton::Silent => Stroke::Nothing,
@@ -34,7 +34,7 @@ fn stroke_of(k: Skeleton) -> Stroke
 }
 
 fn line_stroke(lines: Lines, e: LineEvent) -> Stroke
-    ensures { result ≡ lineStroke lines e }
+    ensures { result ≡ line_stroke lines e }
 {
     if record::goes_off(lines, e) {
         Stroke::Cut
@@ -44,7 +44,7 @@ fn line_stroke(lines: Lines, e: LineEvent) -> Stroke
 }
 
 fn per_chip(flash: Stroke, eeprom: Stroke, chip: Chip) -> Stroke
-    ensures { result ≡ perChip flash eeprom chip }
+    ensures { result ≡ per_chip flash eeprom chip }
 {
     match chip {
         Chip::Flash => flash,
@@ -54,7 +54,7 @@ fn per_chip(flash: Stroke, eeprom: Stroke, chip: Chip) -> Stroke
 
 // What a record, with its reply, does to the chip's cycle.
 pub(crate) fn stroke_for(chip: Chip, lines: Lines, event: Event, k: Skeleton) -> Stroke
-    ensures { result ≡ strokeFor chip lines event k }
+    ensures { result ≡ stroke_for chip lines event k }
 {
     match event {
         Event::Flash(_) => per_chip(stroke_of(k), Stroke::Nothing, chip),
@@ -75,7 +75,7 @@ fn reaches(status: FlashStatus, watched: u8) -> bool
 
 // Which of the kept pages the flash's cycle touches.
 fn flash_pages(watched: u8, cycle: FlashCycle, status: FlashStatus) -> Pages
-    ensures { result ≡ flashPages watched cycle status }
+    ensures { result ≡ flash_pages watched cycle status }
 {
     match cycle {
         FlashCycle::None => Pages::None,
@@ -103,7 +103,7 @@ fn flash_pages(watched: u8, cycle: FlashCycle, status: FlashStatus) -> Pages
 
 // And the EEPROM's.
 fn eeprom_pages(cycle: EepromCycle) -> Pages
-    ensures { result ≡ eepromPages cycle }
+    ensures { result ≡ eeprom_pages cycle }
 {
     match cycle {
         EepromCycle::None => Pages::None,
@@ -118,7 +118,7 @@ pub(crate) fn flash_touched(
     cycle: FlashCycle,
     status: FlashStatus,
 ) -> Pages
-    ensures { result ≡ strokePages stroke (flashPages watched cycle status) }
+    ensures { result ≡ stroke_pages stroke (flash_pages watched cycle status) }
 {
     match stroke {
         Stroke::Nothing => Pages::None,
@@ -128,7 +128,7 @@ pub(crate) fn flash_touched(
 }
 
 pub(crate) fn eeprom_touched(stroke: Stroke, cycle: EepromCycle) -> Pages
-    ensures { result ≡ strokePages stroke (eepromPages cycle) }
+    ensures { result ≡ stroke_pages stroke (eeprom_pages cycle) }
 {
     match stroke {
         Stroke::Nothing => Pages::None,
@@ -139,7 +139,7 @@ pub(crate) fn eeprom_touched(stroke: Stroke, cycle: EepromCycle) -> Pages
 
 // A PROGRAM of these bytes in a page.
 fn program_by(stroke: Stroke, bytes: FlashPage, n: u32, values: &mut [u8], masks: &mut [u8])
-    ensures { image_of values.new masks.new ≡ programBy stroke bytes n (image_of values.old masks.old) }
+    ensures { image_of values.new masks.new ≡ program_by stroke bytes n (image_of values.old masks.old) }
 {
     match stroke {
         Stroke::Nothing => {
@@ -157,7 +157,7 @@ fn program_by(stroke: Stroke, bytes: FlashPage, n: u32, values: &mut [u8], masks
 }
 
 fn erase_by(stroke: Stroke, values: &mut [u8], masks: &mut [u8])
-    ensures { image_of values.new masks.new ≡ eraseBy stroke (image_of values.old masks.old) }
+    ensures { image_of values.new masks.new ≡ erase_by stroke (image_of values.old masks.old) }
 {
     match stroke {
         Stroke::Nothing => {
@@ -182,7 +182,7 @@ pub(crate) fn change_flash(
     values: &mut [u8],
     masks: &mut [u8],
 )
-    ensures { image_of values.new masks.new ≡ onPages (programBy stroke chip.page) (eraseBy stroke) pages (image_of values.old masks.old) }
+    ensures { image_of values.new masks.new ≡ on_pages (program_by stroke chip.page) (erase_by stroke) pages (image_of values.old masks.old) }
 {
     match pages {
         Pages::None => {
@@ -202,7 +202,7 @@ pub(crate) fn change_flash(
 
 // What was sent in a write; where none runs, no page is touched either.
 fn sent_in(cycle: EepromCycle) -> Sent
-    ensures { result ≡ sentIn cycle }
+    ensures { result ≡ sent_in cycle }
 {
     match cycle {
         EepromCycle::None => Sent {
@@ -222,7 +222,7 @@ fn store_by(
     values: &mut [u8],
     masks: &mut [u8],
 )
-    ensures { image_of values.new masks.new ≡ storeBy stroke sent bytes n (image_of values.old masks.old) }
+    ensures { image_of values.new masks.new ≡ store_by stroke sent bytes n (image_of values.old masks.old) }
 {
     match stroke {
         Stroke::Nothing => {
@@ -254,7 +254,7 @@ pub(crate) fn change_eeprom(
     values: &mut [u8],
     masks: &mut [u8],
 )
-    ensures { image_of values.new masks.new ≡ onPages (storeBy stroke (sentIn chip.cycle) chip.page) (λ i. i) pages (image_of values.old masks.old) }
+    ensures { image_of values.new masks.new ≡ on_pages (store_by stroke (sent_in chip.cycle) chip.page) (λ i. i) pages (image_of values.old masks.old) }
 {
     match pages {
         Pages::None => {

@@ -1,6 +1,6 @@
 // One record on the machine: controls and lent images, with the reply and how it compares.
 ghost use Rattle.std.specs.Prelude.{◌≡◌};
-ghost use Rattle.image.specs.Images.{imagesOf};
+ghost use Rattle.image.specs.Images.{images_of};
 ghost use Rattle.machine.specs.Turn.{turn, turn_of};
 
 use controls::Controls;
@@ -30,8 +30,8 @@ pub fn play(
     eeprom: &mut [u8],
     eeprom_mask: &mut [u8],
 ) -> Played
-    ensures { turn result.controls (imagesOf flash.new flash_mask.new eeprom.new eeprom_mask.new) result.reply result.touched
-        ≡ turn_of board controls (imagesOf flash.old flash_mask.old eeprom.old eeprom_mask.old) rec }
+    ensures { turn result.controls (images_of flash.new flash_mask.new eeprom.new eeprom_mask.new) result.reply result.touched
+        ≡ turn_of board controls (images_of flash.old flash_mask.old eeprom.old eeprom_mask.old) rec }
 {
     let moved = controls.play(board, rec);
     let skeleton = moved.reply;

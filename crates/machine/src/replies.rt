@@ -1,9 +1,9 @@
 // A reply as it is delivered from an image, and how it compares with what was recorded.
 ghost use Rattle.std.specs.Prelude.{◌≡◌, get_or};
 ghost use Rattle.image.specs.Image.{image_of};
-ghost use Rattle.image.specs.Images.{imagesOf};
-ghost use Rattle.machine.specs.Replies.{delivered, agreesIf, comparedByte, comparedTo, flashSeen, eepromSeen, compared};
-ghost use Rattle.machine.specs.Machine.{imageFor};
+ghost use Rattle.image.specs.Images.{images_of};
+ghost use Rattle.machine.specs.Replies.{delivered, agrees_if, compared_byte, compared_to, flash_seen, eeprom_seen, compared};
+ghost use Rattle.machine.specs.Machine.{image_for};
 
 use cell::Cell;
 use record::{EepromEvent, Event, FlashEvent, Match, Reply, Skeleton};
@@ -43,7 +43,7 @@ pub(crate) fn deliver_for(
     eeprom_mask: &[u8],
     k: Skeleton,
 ) -> Reply
-    ensures { result ≡ delivered (imageFor event (imagesOf flash.now flash_mask.now eeprom.now eeprom_mask.now)) k }
+    ensures { result ≡ delivered (image_for event (images_of flash.now flash_mask.now eeprom.now eeprom_mask.now)) k }
 {
     match event {
         Event::Flash(_) => deliver(flash, flash_mask, k),
@@ -54,7 +54,7 @@ pub(crate) fn deliver_for(
 
 // Agrees where the flag holds, else disagrees.
 fn agrees_if(flag: bool) -> Match
-    ensures { result ≡ agreesIf flag }
+    ensures { result ≡ agrees_if flag }
 {
     match flag {
         true => Match::Agrees,
@@ -63,7 +63,7 @@ fn agrees_if(flag: bool) -> Match
 }
 
 fn compare_byte(value: u8, mask: u8, seen: u8) -> Match
-    ensures { result ≡ comparedByte value mask seen }
+    ensures { result ≡ compared_byte value mask seen }
 {
     if mask == 255 {
         return Match::Nothing;
@@ -76,7 +76,7 @@ fn compare_byte(value: u8, mask: u8, seen: u8) -> Match
 }
 
 fn compare_to(seen: u8, ack: Match, lack: Match, reply: Reply) -> Match
-    ensures { result ≡ comparedTo seen ack lack reply }
+    ensures { result ≡ compared_to seen ack lack reply }
 {
     match reply {
         Reply::NotPlayed => Match::Nothing,
@@ -91,7 +91,7 @@ fn compare_to(seen: u8, ack: Match, lack: Match, reply: Reply) -> Match
 }
 
 fn see_flash(e: FlashEvent, reply: Reply) -> Match
-    ensures { result ≡ flashSeen e reply }
+    ensures { result ≡ flash_seen e reply }
 {
     match e {
         FlashEvent::Select => Match::Nothing,
@@ -103,7 +103,7 @@ fn see_flash(e: FlashEvent, reply: Reply) -> Match
 }
 
 fn see_eeprom(e: EepromEvent, reply: Reply) -> Match
-    ensures { result ≡ eepromSeen e reply }
+    ensures { result ≡ eeprom_seen e reply }
 {
     match e {
         EepromEvent::Start => Match::Nothing,

@@ -8,12 +8,12 @@ use mathlib.Core.List.{List, [], ◌∷◌, ◌++◌}
 use Prim.Native.Nat.{ℕ, zero, suc, ◌≤◌, ◌<◌}
 use native.Mathlib.Omega.{arith}
 use borrow.Author.Tests.{leb-true, le-leb, ltb-true}
-use Rattle.law.specs.Choice.{lt-or-le}
-use Rattle.law.specs.Lists.{all_map, all_filter, all_pass, filter-both, filter-all}
+use Rattle.law.specs.Choice.{lt_or_le}
+use Rattle.law.specs.Lists.{all_map, all_filter, all_pass, filter_both, filter_all}
 use Rattle.law.specs.Words.{All}
 use Rattle.meaning.specs.Meaning.{Rules, Reason, crowded, differ, lost, NeverBack, Allowed, after, outcome, upto, Alike, Crowded, Differ, Lost, Holds, FirstReason, Passes, Earliest}
-use Rattle.meaning.proofs.Allowing.{itself, back-filter, above, halves}
-use Rattle.meaning.proofs.Steps.{alike-on, on_alike}
+use Rattle.meaning.proofs.Allowing.{itself, back_filter, above, halves}
+use Rattle.meaning.proofs.Steps.{alike_on, on_alike}
 
 all_both : {A : Type 0} (P Q : A → Type 0) (l : List A) → All P l → All Q l → All (λ a. P a × Q a) l
 unfolding All
@@ -26,7 +26,7 @@ module _ {P : ℕ → Type 0} (t : ℕ) where
   less h u l = h u (omega arith)
 
   one_more : ((u : ℕ) → u < t → P u) → P t → (u : ℕ) → u < suc t → P u
-  one_more h p u l = ⊎_elim (λ k. h u k) (λ k. let e : t ≡ u = omega arith in subst P e p) (lt-or-le u t)
+  one_more h p u l = ⊎_elim (λ k. h u k) (λ k. let e : t ≡ u = omega arith in subst P e p) (lt_or_le u t)
 
 module _ {A S R : Type 0} (m : Rules A S R) (rs : List A) (back : NeverBack m rs) (u : ℕ) where
   -- the records by a stamp are those by the stamp before it, and then its own
@@ -38,24 +38,24 @@ module _ {A S R : Type 0} (m : Rules A S R) (rs : List A) (back : NeverBack m rs
 
   parted : upto m (suc u) rs ≡ upto m u rs ++ next
   parted =
-      halves m (upto m (suc u) rs) u (back-filter m _ rs back)
-      ∙ ap (λ (l : List A). l ++ next) (filter-both _ _ rs ∙ filter-all _ _ (all_map _ _ (λ a l. le-leb (m.stamp a) (suc u) (omega arith)) _ by_before))
+      halves m (upto m (suc u) rs) u (back_filter m _ rs back)
+      ∙ ap (λ (l : List A). l ++ next) (filter_both _ _ rs ∙ filter_all _ _ (all_map _ _ (λ a l. le-leb (m.stamp a) (suc u) (omega arith)) _ by_before))
 
-  next-above : All (λ (a : A). u < m.stamp a) next
-  next-above = all_pass _ _ (λ a e. ltb-true u (m.stamp a) e) (upto m (suc u) rs)
+  next_above : All (λ (a : A). u < m.stamp a) next
+  next_above = all_pass _ _ (λ a e. ltb-true u (m.stamp a) e) (upto m (suc u) rs)
 
-  next-stamp : All (λ (a : A). m.stamp a ≡ suc u) next
-  next-stamp =
+  next_stamp : All (λ (a : A). m.stamp a ≡ suc u) next
+  next_stamp =
       all_map _ _ (λ a h. let x = h.0 in let y = h.1 in omega arith) next
-      (all_both (λ (a : A). u < m.stamp a) (λ (a : A). m.stamp a ≤ suc u) next next-above
+      (all_both (λ (a : A). u < m.stamp a) (λ (a : A). m.stamp a ≤ suc u) next next_above
       (all_filter _ _ (upto m (suc u) rs) (all_pass _ _ (λ a e. leb-true (m.stamp a) (suc u) e) rs)))
 
   -- so where those before end alike, all do exactly where its own do
   alike_next : (s : S) → Alike m (upto m u rs) s → Alike m (upto m (suc u) rs) s ↔ Alike m next (after m (upto m u rs) s)
   alike_next s h =
-      let it = itself m (upto m u rs) (back-filter m _ rs back) in (
-        (λ k. on_alike m _ u by_before s h _ it next next-above (subst (λ (l : List A). Alike m l s) parted k)),
-        λ k. subst (λ (l : List A). Alike m l s) (sym parted) (alike-on m _ u by_before s h _ it next next-above k),
+      let it = itself m (upto m u rs) (back_filter m _ rs back) in (
+        (λ k. on_alike m _ u by_before s h _ it next next_above (subst (λ (l : List A). Alike m l s) parted k)),
+        λ k. subst (λ (l : List A). Alike m l s) (sym parted) (alike_on m _ u by_before s h _ it next next_above k),
       )
 
 module _ {A S R T K : Type 0} (m : Rules A S R) (play : T → A → T) (says : T → A → K) (gone : T → Bool) where
@@ -75,20 +75,20 @@ module _ {A S R T K : Type 0} (m : Rules A S R) (play : T → A → T) (says : T
   )
 
   module _ (see : S → T) (plays : (s : S) (a : A) → see (m.play s a) ≡ play (see s) a) where
-    pub see-after : (o : List A) (s : S) → see (after m o s) ≡ after other o (see s)
+    pub see_after : (o : List A) (s : S) → see (after m o s) ≡ after other o (see s)
     unfolding after
-    see-after [] s = refl
-    see-after (a ∷ o) s = see-after o (m.play s a) ∙ ap (after other o) (plays s a)
+    see_after [] s = refl
+    see_after (a ∷ o) s = see_after o (m.play s a) ∙ ap (after other o) (plays s a)
 
     module _ (loses : (s : S) → m.lost s ≡ gone (see s)) (Good : S → Type 0) (good : (s : S) (a : A) → Good s → Good (m.play s a))
         (pairs : (t : ℕ) (p : List A) → All (λ (a : A). m.stamp a ≡ t) p → (s : S) → Good s → (o q : List A) → Allowed m p o → Allowed m p q → (outcome m o s ≡ outcome m q s) ↔ (outcome other o (see s) ≡ outcome other q (see s))) where
-      good-after : (o : List A) (s : S) → Good s → Good (after m o s)
+      good_after : (o : List A) (s : S) → Good s → Good (after m o s)
       unfolding after
-      good-after [] s g = g
-      good-after (a ∷ o) s g = good-after o (m.play s a) (good s a g)
+      good_after [] s g = g
+      good_after (a ∷ o) s g = good_after o (m.play s a) (good s a g)
 
-      one-stamp : (t : ℕ) (p : List A) → All (λ (a : A). m.stamp a ≡ t) p → (s : S) → Good s → Alike m p s ↔ Alike other p (see s)
-      one-stamp t p hp s g = same_alike p s (see s) (pairs t p hp s g)
+      one_stamp : (t : ℕ) (p : List A) → All (λ (a : A). m.stamp a ≡ t) p → (s : S) → Good s → Alike m p s ↔ Alike other p (see s)
+      one_stamp t p hp s g = same_alike p s (see s) (pairs t p hp s g)
 
       module _ (rs : List A) (back : NeverBack m rs) (s : S) (g : Good s) where
         -- all stamps below t pass
@@ -101,13 +101,13 @@ module _ {A S R T K : Type 0} (m : Rules A S R) (play : T → A → T) (says : T
         alike_same : (u : ℕ) → Alike m (upto m u rs) s → Alike other (upto m u rs) (see s) → Alike m (upto m (suc u) rs) s ↔ Alike other (upto m (suc u) rs) (see s)
         alike_same u h k =
             Iff.trans (alike_next m rs back u s h)
-            (Iff.trans (one-stamp (suc u) (next m rs back u) (next-stamp m rs back u) (after m (upto m u rs) s) (good-after _ s g))
-            (subst (λ (w : T). Alike other (next m rs back u) w ↔ Alike other (upto m (suc u) rs) (see s)) (sym (see-after (upto m u rs) s)) (Iff.symm (alike_next other rs back u (see s) k))))
+            (Iff.trans (one_stamp (suc u) (next m rs back u) (next_stamp m rs back u) (after m (upto m u rs) s) (good_after _ s g))
+            (subst (λ (w : T). Alike other (next m rs back u) w ↔ Alike other (upto m (suc u) rs) (see s)) (sym (see_after (upto m u rs) s)) (Iff.symm (alike_next other rs back u (see s) k))))
 
         -- a stamp that passes says only that its orders are not unlike, which is enough where `Differ` is compared
         differs : (t : ℕ) → Before t → SeenBefore t → Differ m rs s t ↔ Differ other rs (see s) t
         unfolding Differ Passes Holds
-        differs zero h k = Iff.not (one-stamp 0 (upto m 0 rs) (all_pass _ _ (λ a e. let l = leb-true (m.stamp a) 0 e in omega arith) rs) s g)
+        differs zero h k = Iff.not (one_stamp 0 (upto m 0 rs) (all_pass _ _ (λ a e. let l = leb-true (m.stamp a) 0 e in omega arith) rs) s g)
         differs (suc u) h k = (
           (λ d e. h u (omega arith) differ (λ a. k u (omega arith) differ (λ c. d ((alike_same u a c).1 e)))),
           λ d e. h u (omega arith) differ (λ a. k u (omega arith) differ (λ c. d ((alike_same u a c).0 e))),
@@ -118,7 +118,7 @@ module _ {A S R T K : Type 0} (m : Rules A S R) (play : T → A → T) (says : T
         crowds t = Iff.rfl
 
         lost_as : (o : List A) → m.lost (after m o s) ≡ gone (after other o (see s))
-        lost_as o = loses (after m o s) ∙ ap gone (see-after o s)
+        lost_as o = loses (after m o s) ∙ ap gone (see_after o s)
 
         loss : (t : ℕ) → Lost m rs s t ↔ Lost other rs (see s) t
         unfolding Lost
@@ -145,21 +145,21 @@ module _ {A S R T K : Type 0} (m : Rules A S R) (play : T → A → T) (says : T
           passes = ((λ f r y. f r ((holds r).1 y)), λ f r y. f r ((holds r).0 y))
 
         -- by induction on the stamp
-        same-before : (t : ℕ) → Before t ↔ SeenBefore t
-        same-before zero = ((λ h u l. absurd (omega arith)), λ h u l. absurd (omega arith))
-        same-before (suc t) = (
-          (λ h. let k = (same-before t).0 (less t h) in one_more t k ((passes t (less t h) k).0 (h t (omega arith)))),
-          λ h. let k = (same-before t).1 (less t h) in one_more t k ((passes t k (less t h)).1 (h t (omega arith))),
+        same_before : (t : ℕ) → Before t ↔ SeenBefore t
+        same_before zero = ((λ h u l. absurd (omega arith)), λ h u l. absurd (omega arith))
+        same_before (suc t) = (
+          (λ h. let k = (same_before t).0 (less t h) in one_more t k ((passes t (less t h) k).0 (h t (omega arith)))),
+          λ h. let k = (same_before t).1 (less t h) in one_more t k ((passes t k (less t h)).1 (h t (omega arith))),
         )
 
-        pub same-settled : ((t : ℕ) → Passes m rs s t) ↔ ((t : ℕ) → Passes other rs (see s) t)
-        same-settled = (
-          (λ h t. (same-before (suc t)).0 (λ u l. h u) t (omega arith)),
-          λ h t. (same-before (suc t)).1 (λ u l. h u) t (omega arith),
+        pub same_settled : ((t : ℕ) → Passes m rs s t) ↔ ((t : ℕ) → Passes other rs (see s) t)
+        same_settled = (
+          (λ h t. (same_before (suc t)).0 (λ u l. h u) t (omega arith)),
+          λ h t. (same_before (suc t)).1 (λ u l. h u) t (omega arith),
         )
 
-        pub same-earliest : (r : Reason) (t : ℕ) → Earliest m rs s r t ↔ Earliest other rs (see s) r t
-        same-earliest r t = (
-          (λ h. let k = (same-before t).0 h.none_before in record { here = (first t h.none_before k r).0 h.here; none_before = k }),
-          λ h. let k = (same-before t).1 h.none_before in record { here = (first t k h.none_before r).1 h.here; none_before = k },
+        pub same_earliest : (r : Reason) (t : ℕ) → Earliest m rs s r t ↔ Earliest other rs (see s) r t
+        same_earliest r t = (
+          (λ h. let k = (same_before t).0 h.none_before in record { here = (first t h.none_before k r).0 h.here; none_before = k }),
+          λ h. let k = (same_before t).1 h.none_before in record { here = (first t k h.none_before r).1 h.here; none_before = k },
         )

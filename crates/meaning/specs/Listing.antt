@@ -14,5 +14,5 @@ module _ {A S R : Type 0} (m : Rules A S R) where
   laid [] f = []
   laid (a ∷ rs) f = take 1 (f (m.channel a)) ++ laid rs (λ c. pick (same c (m.channel a)) (drop 1 (f c)) (f c))
 
-  abbrev pub shownAt : List A → Outcome S R → List R
-  shownAt rs v = laid rs v.replies
+  abbrev pub shown_at : List A → Outcome S R → List R
+  shown_at rs v = laid rs v.replies

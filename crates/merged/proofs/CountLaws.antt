@@ -6,105 +6,105 @@ use mathlib.Core.Bool.{true, false}
 use mathlib.Core.List.{List, [], ◌∷◌, ◌++◌}
 use lib.ListN.{length, length-append}
 use Rattle.law.specs.Words.{filter, keep}
-use Rattle.law.specs.Ordering.{total, total-append}
+use Rattle.law.specs.Ordering.{total, total_append}
 use Rattle.record.specs.declared.Event.{Event}
 use Rattle.record.specs.declared.Record.{Record}
 use Rattle.field.specs.Reads.{Stands}
 use Rattle.field.proofs.Reading.{Got}
 use Rattle.line.specs.Records.{spelled, RecordOk}
-use Rattle.text.specs.Texts.{spelledAll}
+use Rattle.text.specs.Texts.{spelled_all}
 use Rattle.level.specs.declared.Level.{Level}
-use Rattle.level.specs.Spelled.{spelledLevel, LevelOk}
+use Rattle.level.specs.Spelled.{spelled_level, LevelOk}
 use Rattle.decode.specs.declared.Out.{Out}
 use Rattle.decode.specs.declared.Out.TheVariants.{Nothing, One, Two}
 use Rattle.decode.specs.declared.bits.Bits.{Bits}
 use Rattle.decode.specs.declared.bits.Turn.{Turn}
-use Rattle.decode.specs.Bits.{eventsOf}
-use Rattle.decode.specs.Decoded.{turn_of, recordAt, recordsAt, decodedFrom, flashStart, wiresStart}
+use Rattle.decode.specs.Bits.{events_of}
+use Rattle.decode.specs.Decoded.{turn_of, record_at, records_at, decoded_from, flash_start, wires_start}
 use Rattle.capture.specs.Taken.{taken, taken_of}
 use Rattle.capture.specs.Merge.{Merged}
 use Rattle.capture.specs.OneByOne.{From, records, levels}
-use Rattle.capture.proofs.Parts.{merged-total}
-use Rattle.capture.proofs.OneByOne.{some-record, some_level, took, not_none, at-end}
+use Rattle.capture.proofs.Parts.{merged_total}
+use Rattle.capture.proofs.OneByOne.{some_record, some_level, took, not_none, at_end}
 use Rattle.merged.specs.Writing.{CountsLevels, CountsTaken}
 
 -- ---- lines of several records
-lineLength : Record → ℕ
-lineLength r = length (spelled r)
+line_length : Record → ℕ
+line_length r = length (spelled r)
 
-all-total : (m : List Record) → length (spelledAll m) ≡ total lineLength m
-unfolding spelledAll total lineLength
-all-total [] = refl
-all-total (r ∷ m) = omega (arith, length-append (spelled r) (spelledAll m), all-total m)
+all_total : (m : List Record) → length (spelled_all m) ≡ total line_length m
+unfolding spelled_all total line_length
+all_total [] = refl
+all_total (r ∷ m) = omega (arith, length-append (spelled r) (spelled_all m), all_total m)
 
-all-lengths : (l k : List Record) → length (spelledAll (l ++ k)) ≡ length (spelledAll l) + length (spelledAll k)
-all-lengths l k = omega (arith, all-total (l ++ k), total-append lineLength l k, all-total l, all-total k)
+all_lengths : (l k : List Record) → length (spelled_all (l ++ k)) ≡ length (spelled_all l) + length (spelled_all k)
+all_lengths l k = omega (arith, all_total (l ++ k), total_append line_length l k, all_total l, all_total k)
 
 -- ---- what is given at a stamp
 module _ (t : ℕ) where
-  pub nothing-given : {o : Out} → o ≡ Nothing → 0 ≡ length (spelledAll (recordsAt t (eventsOf o)))
-  unfolding eventsOf spelledAll
-  nothing-given e = rw e
+  pub nothing_given : {o : Out} → o ≡ Nothing → 0 ≡ length (spelled_all (records_at t (events_of o)))
+  unfolding events_of spelled_all
+  nothing_given e = rw e
 
-  pub one-given : {o : Out} {e : Event} {n : ℕ} → o ≡ One e → n ≡ length (spelled (recordAt t e)) → n ≡ length (spelledAll (recordsAt t (eventsOf o)))
-  unfolding eventsOf spelledAll
-  one-given {e = e} q h = rw q (omega (arith, h, length-append (spelled (recordAt t e)) []))
+  pub one_given : {o : Out} {e : Event} {n : ℕ} → o ≡ One e → n ≡ length (spelled (record_at t e)) → n ≡ length (spelled_all (records_at t (events_of o)))
+  unfolding events_of spelled_all
+  one_given {e = e} q h = rw q (omega (arith, h, length-append (spelled (record_at t e)) []))
 
-  pub two-given : {o : Out} {d e : Event} {n k : ℕ} → o ≡ Two d e → n ≡ length (spelled (recordAt t d)) → k ≡ length (spelled (recordAt t e)) → n + k ≡ length (spelledAll (recordsAt t (eventsOf o)))
-  unfolding eventsOf spelledAll
-  two-given {d = d} {e = e} q h j =
-      rw q (omega (arith, h, j, length-append (spelled (recordAt t d)) (spelled (recordAt t e) ++ []), length-append (spelled (recordAt t e)) []))
+  pub two_given : {o : Out} {d e : Event} {n k : ℕ} → o ≡ Two d e → n ≡ length (spelled (record_at t d)) → k ≡ length (spelled (record_at t e)) → n + k ≡ length (spelled_all (records_at t (events_of o)))
+  unfolding events_of spelled_all
+  two_given {d = d} {e = e} q h j =
+      rw q (omega (arith, h, j, length-append (spelled (record_at t d)) (spelled (record_at t e) ++ []), length-append (spelled (record_at t e)) []))
 
 -- ---- the capture
 abbrev given : Bits → Level → List Level → ℕ
-given s a ls = length (spelledAll (decodedFrom s a ls))
+given s a ls = length (spelled_all (decoded_from s a ls))
 
-given-next : (s : Bits) (a b : Level) (ls : List Level) {t : Turn} {n : ℕ} → t ≡ turn_of s a b → n ≡ length (spelledAll (recordsAt b.stamp (eventsOf t.out))) →
+given_next : (s : Bits) (a b : Level) (ls : List Level) {t : Turn} {n : ℕ} → t ≡ turn_of s a b → n ≡ length (spelled_all (records_at b.stamp (events_of t.out))) →
     given s a (b ∷ ls) ≡ n + given t.bits b ls
-unfolding decodedFrom
-given-next s a b ls e h = rw (h, e) (all-lengths (recordsAt b.stamp (eventsOf (turn_of s a b).out)) (decodedFrom (turn_of s a b).bits b ls))
+unfolding decoded_from
+given_next s a b ls e h = rw (h, e) (all_lengths (records_at b.stamp (events_of (turn_of s a b).out)) (decoded_from (turn_of s a b).bits b ls))
 
 pub record CountingLevels (text : List ℕ) (a : Level) (from at : ℕ) (last : Level) (flash wires : Bits) (sum : ℕ) : Type 0 where
-  pub counting : (ls : List Level) → From levels text from ls → (ls' : List Level) × From levels text at ls' × (given flashStart a ls + given wiresStart a ls ≡ sum + (given flash last ls' + given wires last ls'))
+  pub counting : (ls : List Level) → From levels text from ls → (ls' : List Level) × From levels text at ls' × (given flash_start a ls + given wires_start a ls ≡ sum + (given flash last ls' + given wires last ls'))
 
-pub levels-start : {text : List ℕ} {a : Level} {from : ℕ} {flash wires : Bits} → flash ≡ flashStart → wires ≡ wiresStart → CountingLevels text a from from a flash wires 0
-levels-start {a = a} e h = record { counting = λ ls f. (ls, f, omega (arith, ap (λ (s : Bits). given s a ls) e, ap (λ (s : Bits). given s a ls) h)) }
+pub levels_start : {text : List ℕ} {a : Level} {from : ℕ} {flash wires : Bits} → flash ≡ flash_start → wires ≡ wires_start → CountingLevels text a from from a flash wires 0
+levels_start {a = a} e h = record { counting = λ ls f. (ls, f, omega (arith, ap (λ (s : Bits). given s a ls) e, ap (λ (s : Bits). given s a ls) h)) }
 
 module _ {text : List ℕ} {a : Level} {from at : ℕ} {last : Level} {flash wires : Bits} {sum : ℕ} (c : CountingLevels text a from at last flash wires sum) where
-  pub levels-none : at < length text → ((l : Level) → LevelOk l → Stands text at (spelledLevel l) → ⊥) → CountsLevels text a from sum
+  pub levels_none : at < length text → ((l : Level) → LevelOk l → Stands text at (spelled_level l) → ⊥) → CountsLevels text a from sum
   unfolding levels
-  levels-none h n = record { counts = λ ls f. let z = c.counting ls f in absurd (not_none z.0 z.1 h n) }
+  levels_none h n = record { counts = λ ls f. let z = c.counting ls f in absurd (not_none z.0 z.1 h n) }
 
-  pub levels-end : length text ≤ at → CountsLevels text a from sum
-  unfolding decodedFrom spelledAll
-  levels-end h = record {
+  pub levels_end : length text ≤ at → CountsLevels text a from sum
+  unfolding decoded_from spelled_all
+  levels_end h = record {
     counts = λ ls f.
         let z = c.counting ls f in
-        let e = at-end some_level z.0 z.1 h in
+        let e = at_end some_level z.0 z.1 h in
         omega (arith, z.2, ap (given flash last) e, ap (given wires last) e);
   }
 
-  pub levels-next : {l : Level} {p : ℕ} {f w : Turn} {n k : ℕ} → Got spelledLevel LevelOk text at l p → f ≡ turn_of flash last l → w ≡ turn_of wires last l →
-      n ≡ length (spelledAll (recordsAt l.stamp (eventsOf f.out))) → k ≡ length (spelledAll (recordsAt l.stamp (eventsOf w.out))) →
+  pub levels_next : {l : Level} {p : ℕ} {f w : Turn} {n k : ℕ} → Got spelled_level LevelOk text at l p → f ≡ turn_of flash last l → w ≡ turn_of wires last l →
+      n ≡ length (spelled_all (records_at l.stamp (events_of f.out))) → k ≡ length (spelled_all (records_at l.stamp (events_of w.out))) →
       CountingLevels text a from p l f.bits w.bits (sum + n + k)
   unfolding levels
-  levels-next {l = l} g e h i j = record {
+  levels_next {l = l} g e h i j = record {
     counting = λ ls q.
         let z = c.counting ls q in
         let y = took some_level z.0 z.1 g in (
           y.0,
           y.1,
-          omega (arith, z.2, ap (given flash last) y.2, ap (given wires last) y.2, given-next flash last l y.0 e i, given-next wires last l y.0 h j),
+          omega (arith, z.2, ap (given flash last) y.2, ap (given wires last) y.2, given_next flash last l y.0 e i, given_next wires last l y.0 h j),
         );
   }
 
 -- ---- the logger's trace
 abbrev takes : List Record → ℕ
-takes rs = length (spelledAll (taken_of rs))
+takes rs = length (spelled_all (taken_of rs))
 
-takes-in : (r : Record) (rs : List Record) → taken r.event ≡ true → takes (r ∷ rs) ≡ length (spelled r) + takes rs
-unfolding filter keep spelledAll
-takes-in r rs e = rw e (length-append (spelled r) (spelledAll (taken_of rs)))
+takes_in : (r : Record) (rs : List Record) → taken r.event ≡ true → takes (r ∷ rs) ≡ length (spelled r) + takes rs
+unfolding filter keep spelled_all
+takes_in r rs e = rw e (length-append (spelled r) (spelled_all (taken_of rs)))
 
 takes_out : (r : Record) (rs : List Record) → taken r.event ≡ false → takes (r ∷ rs) ≡ takes rs
 unfolding filter keep
@@ -121,12 +121,12 @@ module _ {text : List ℕ} {from at sum : ℕ} (c : CountingTaken text from at s
   unfolding records
   taken_none h n = record { counts = λ rs f. let z = c.counting rs f in absurd (not_none z.0 z.1 h n) }
 
-  pub taken-end : length text ≤ at → CountsTaken text from sum
-  unfolding filter spelledAll
-  taken-end h = record {
+  pub taken_end : length text ≤ at → CountsTaken text from sum
+  unfolding filter spelled_all
+  taken_end h = record {
     counts = λ rs f.
         let z = c.counting rs f in
-        omega (arith, z.2, ap takes (at-end some-record z.0 z.1 h));
+        omega (arith, z.2, ap takes (at_end some_record z.0 z.1 h));
   }
 
   module _ {r : Record} {p : ℕ} (g : Got spelled RecordOk text at r p) where
@@ -135,28 +135,28 @@ module _ {text : List ℕ} {from at sum : ℕ} (c : CountingTaken text from at s
     taken_next e = record {
       counting = λ rs f.
           let z = c.counting rs f in
-          let y = took some-record z.0 z.1 g in
-          (y.0, y.1, omega (arith, z.2, ap takes y.2, takes-in r y.0 e, g.next));
+          let y = took some_record z.0 z.1 g in
+          (y.0, y.1, omega (arith, z.2, ap takes y.2, takes_in r y.0 e, g.next));
     }
 
-    pub taken-passed : taken r.event ≡ false → CountingTaken text from p sum
+    pub taken_passed : taken r.event ≡ false → CountingTaken text from p sum
     unfolding records
-    taken-passed e = record {
+    taken_passed e = record {
       counting = λ rs f.
           let z = c.counting rs f in
-          let y = took some-record z.0 z.1 g in
+          let y = took some_record z.0 z.1 g in
           (y.0, y.1, omega (arith, z.2, ap takes y.2, takes_out r y.0 e));
     }
 
 -- ---- both
 -- the merged trace's lines are those of both texts
-pub merged-length : (a : Level) (ls : List Level) (rs m : List Record) → Merged (a ∷ ls) rs m → length (spelledAll m) ≡ given flashStart a ls + given wiresStart a ls + takes rs
-merged-length a ls rs m p =
+pub merged_length : (a : Level) (ls : List Level) (rs m : List Record) → Merged (a ∷ ls) rs m → length (spelled_all m) ≡ given flash_start a ls + given wires_start a ls + takes rs
+merged_length a ls rs m p =
     omega (
       arith,
-      merged-total lineLength a ls rs m p,
-      all-total m,
-      all-total (decodedFrom flashStart a ls),
-      all-total (decodedFrom wiresStart a ls),
-      all-total (taken_of rs),
+      merged_total line_length a ls rs m p,
+      all_total m,
+      all_total (decoded_from flash_start a ls),
+      all_total (decoded_from wires_start a ls),
+      all_total (taken_of rs),
     )

@@ -13,34 +13,34 @@ use Rattle.law.specs.Words.{pick}
 use Rattle.law.specs.Choice.{split}
 use Rattle.record.specs.declared.Record.{Record}
 use Rattle.line.specs.declared.output.Written.{Written}
-use Rattle.line.specs.Output.{onPaper, Wrote}
+use Rattle.line.specs.Output.{on_paper, Wrote}
 use Rattle.line.specs.Records.{spelled}
 use Rattle.merged.specs.Writing.{put_at, WritesLine}
 
 -- what a writer says where there is room, and where there is not
 module _ {w old new : List ℕ} {r : Written} (d : Wrote w old new r) where
-  room-answer : length w ≤ length old → onPaper r ≡ (0, length w)
-  room-answer h = d.answer ∙ ap (λ (t : Bool). pick t (10, 0) (0, length w)) (le-ltb (length old) (length w) h)
+  room_answer : length w ≤ length old → on_paper r ≡ (0, length w)
+  room_answer h = d.answer ∙ ap (λ (t : Bool). pick t (10, 0) (0, length w)) (le-ltb (length old) (length w) h)
 
-  pub wrote-length : {n : ℕ} → length w ≤ length old → r ≡ Written.Length n → n ≡ length w
-  wrote-length {n} h e = ap (λ (x : ℕ × ℕ). x.1) (ap onPaper (sym e) ∙ room-answer h)
+  pub wrote_length : {n : ℕ} → length w ≤ length old → r ≡ Written.Length n → n ≡ length w
+  wrote_length {n} h e = ap (λ (x : ℕ × ℕ). x.1) (ap on_paper (sym e) ∙ room_answer h)
 
   pub not_short : length w ≤ length old → r ≡ Written.TooShort → ⊥
-  not_short h e = let z : ◌≡◌ {A = ℕ} 10 0 = ap (λ (x : ℕ × ℕ). x.0) (ap onPaper (sym e) ∙ room-answer h) in omega arith
+  not_short h e = let z : ◌≡◌ {A = ℕ} 10 0 = ap (λ (x : ℕ × ℕ). x.0) (ap on_paper (sym e) ∙ room_answer h) in omega arith
 
-  pub not-out : length w ≤ length old → r ≡ Written.OutOfRange → ⊥
-  not-out h e = let z : ◌≡◌ {A = ℕ} 9 0 = ap (λ (x : ℕ × ℕ). x.0) (ap onPaper (sym e) ∙ room-answer h) in omega arith
+  pub not_out : length w ≤ length old → r ≡ Written.OutOfRange → ⊥
+  not_out h e = let z : ◌≡◌ {A = ℕ} 9 0 = ap (λ (x : ℕ × ℕ). x.0) (ap on_paper (sym e) ∙ room_answer h) in omega arith
 
-  pub wrote-content : length w ≤ length old → new ≡ w ++ drop (length w) old
-  wrote-content h = d.content ∙ ap (λ (t : Bool). pick t old (w ++ drop (length w) old)) (le-ltb (length old) (length w) h)
+  pub wrote_content : length w ≤ length old → new ≡ w ++ drop (length w) old
+  wrote_content h = d.content ∙ ap (λ (t : Bool). pick t old (w ++ drop (length w) old)) (le-ltb (length old) (length w) h)
 
 -- a part written is the whole put
-pub part-put : (at : ℕ) (w old new : List ℕ) → new ≡ w ++ drop (length w) (drop at old) → take at old ++ new ≡ put_at at w old
-part-put at w old new e = ap (λ (l : List ℕ). take at old ++ l) (e ∙ ap (λ (l : List ℕ). w ++ l) (drop-drop (length w) at old))
+pub part_put : (at : ℕ) (w old new : List ℕ) → new ≡ w ++ drop (length w) (drop at old) → take at old ++ new ≡ put_at at w old
+part_put at w old new e = ap (λ (l : List ℕ). take at old ++ l) (e ∙ ap (λ (l : List ℕ). w ++ l) (drop-drop (length w) at old))
 
 -- one put behind another is one put
-pub put-put : (at : ℕ) (u v old : List ℕ) → at + length u ≤ length old → put_at (at + length u) v (put_at at u old) ≡ put_at at (u ++ v) old
-put-put at u v old h =
+pub put_put : (at : ℕ) (u v old : List ℕ) → at + length u ≤ length old → put_at (at + length u) v (put_at at u old) ≡ put_at at (u ++ v) old
+put_put at u v old h =
     ap₂ (λ (x y : List ℕ). x ++ (v ++ y)) front back
     ∙ append_assoc (take at old) u (v ++ drop (at + (length u + length v)) old)
     ∙ ap (λ (l : List ℕ). take at old ++ l) (sym (append_assoc u v (drop (at + (length u + length v)) old)))
@@ -62,42 +62,42 @@ put-put at u v old h =
         ∙ ap (λ (n : ℕ). drop n old) (add_assoc at (length u) (length v))
 
 -- ---- a line at a place that is not within the output
-pub line-beyond : (x : Record) (at : ℕ) (old : List ℕ) → length old < at → WritesLine x at old old at
-line-beyond x at old h = record { writes = λ k. absurd (omega arith) }
+pub line_beyond : (x : Record) (at : ℕ) (old : List ℕ) → length old < at → WritesLine x at old old at
+line_beyond x at old h = record { writes = λ k. absurd (omega arith) }
 
 -- ---- a line at a place within the output: the part behind the place is lent
 module _ (x : Record) (at : ℕ) (old ys : List ℕ) {r : Written} (h : at ≤ length old) (d : Wrote (spelled x) (take (length old - at) (drop at old)) ys r) where
-  part-is : take (length old - at) (drop at old) ≡ drop at old
-  part-is = take_all (length old - at) (drop at old) (omega (arith, length-drop at old))
+  part_is : take (length old - at) (drop at old) ≡ drop at old
+  part_is = take_all (length old - at) (drop at old) (omega (arith, length-drop at old))
 
   part_room : at + length (spelled x) ≤ length old → length (spelled x) ≤ length (take (length old - at) (drop at old))
-  part_room k = omega (arith, ap length part-is, length-drop at old)
+  part_room k = omega (arith, ap length part_is, length-drop at old)
 
-  pub part-short : (n : ℕ) (new : List ℕ) → r ≡ Written.TooShort → WritesLine x at old new n
-  part-short n new e = record { writes = λ k. absurd (not_short d (part_room k) e) }
+  pub part_short : (n : ℕ) (new : List ℕ) → r ≡ Written.TooShort → WritesLine x at old new n
+  part_short n new e = record { writes = λ k. absurd (not_short d (part_room k) e) }
 
   pub part_out : (n : ℕ) (new : List ℕ) → r ≡ Written.OutOfRange → WritesLine x at old new n
-  part_out n new e = record { writes = λ k. absurd (not-out d (part_room k) e) }
+  part_out n new e = record { writes = λ k. absurd (not_out d (part_room k) e) }
 
-  nothing-behind : drop (length old - at) (drop at old) ≡ []
-  nothing-behind = drop_of_length-le (drop at old) {i = length old - at} (omega (arith, length-drop at old))
+  nothing_behind : drop (length old - at) (drop at old) ≡ []
+  nothing_behind = drop_of_length-le (drop at old) {i = length old - at} (omega (arith, length-drop at old))
 
-  pub part-written : {n : ℕ} → r ≡ Written.Length n → WritesLine x at old (take at old ++ (ys ++ drop (length old - at) (drop at old))) (at + n)
-  part-written {n} e = record {
+  pub part_written : {n : ℕ} → r ≡ Written.Length n → WritesLine x at old (take at old ++ (ys ++ drop (length old - at) (drop at old))) (at + n)
+  part_written {n} e = record {
     writes = λ k.
-        let m = wrote-length d (part_room k) e in
-        let c : ys ≡ spelled x ++ drop (length (spelled x)) (drop at old) = wrote-content d (part_room k) ∙ ap (λ (l : List ℕ). spelled x ++ drop (length (spelled x)) l) part-is in (
+        let m = wrote_length d (part_room k) e in
+        let c : ys ≡ spelled x ++ drop (length (spelled x)) (drop at old) = wrote_content d (part_room k) ∙ ap (λ (l : List ℕ). spelled x ++ drop (length (spelled x)) l) part_is in (
           ap (λ (i : ℕ). at + i) m,
-          ap (λ (l : List ℕ). take at old ++ (ys ++ l)) nothing-behind ∙ ap (λ (l : List ℕ). take at old ++ l) (append-nil ys) ∙ part-put at (spelled x) old ys c,
+          ap (λ (l : List ℕ). take at old ++ (ys ++ l)) nothing_behind ∙ ap (λ (l : List ℕ). take at old ++ l) (append-nil ys) ∙ part_put at (spelled x) old ys c,
         );
   }
 
   -- what was written fits
-  pub part-fits : {n : ℕ} → r ≡ Written.Length n → at + n ≤ length old
-  part-fits {n} e =
+  pub part_fits : {n : ℕ} → r ≡ Written.Length n → at + n ≤ length old
+  part_fits {n} e =
       split (ltb (length (take (length old - at) (drop at old))) (length (spelled x)))
-      (λ t. absurd (let z : ◌≡◌ {A = ℕ} 0 10 = ap (λ (q : ℕ × ℕ). q.0) (ap onPaper (sym e) ∙ d.answer ∙ ap (λ (u : Bool). pick u (10, 0) (0, length (spelled x))) t) in omega arith))
+      (λ t. absurd (let z : ◌≡◌ {A = ℕ} 0 10 = ap (λ (q : ℕ × ℕ). q.0) (ap on_paper (sym e) ∙ d.answer ∙ ap (λ (u : Bool). pick u (10, 0) (0, length (spelled x))) t) in omega arith))
       (λ t.
-      let z : n ≡ length (spelled x) = ap (λ (q : ℕ × ℕ). q.1) (ap onPaper (sym e) ∙ d.answer ∙ ap (λ (u : Bool). pick u (10, 0) (0, length (spelled x))) t) in
+      let z : n ≡ length (spelled x) = ap (λ (q : ℕ × ℕ). q.1) (ap on_paper (sym e) ∙ d.answer ∙ ap (λ (u : Bool). pick u (10, 0) (0, length (spelled x))) t) in
       let k = ltb-false (length (take (length old - at) (drop at old))) (length (spelled x)) t in
-      omega (arith, ap length part-is, length-drop at old))
+      omega (arith, ap length part_is, length-drop at old))

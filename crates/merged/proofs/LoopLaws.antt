@@ -7,37 +7,37 @@ use mathlib.Core.List.{List, [], ◌∷◌, ◌++◌}
 use lib.ListN.{length, take, drop, length-append, take-append-drop}
 use Rattle.record.specs.declared.Record.{Record}
 use Rattle.line.specs.Records.{spelled}
-use Rattle.text.specs.Texts.{spelledAll}
+use Rattle.text.specs.Texts.{spelled_all}
 use Rattle.capture.specs.Most.{most}
 use Rattle.weave.specs.declared.Head.{Head}
 use Rattle.weave.specs.declared.Weave.{Weave}
 use Rattle.weave.specs.declared.Woven.{Woven}
 use Rattle.weave.specs.Weaving.{Left, Weaves}
-use Rattle.weave.proofs.WovenLaws.{then_next, then-done}
+use Rattle.weave.proofs.WovenLaws.{then_next, then_done}
 use Rattle.merged.specs.Writing.{put_at, WritesLine, WritesAll}
-use Rattle.merged.proofs.LineLaws.{put-put}
+use Rattle.merged.proofs.LineLaws.{put_put}
 
 empty : (l : List Record) → length l ≡ 0 → l ≡ []
 empty [] q = refl
 empty (x ∷ l) q = absurd (omega arith)
 
-all_nil : (m : List Record) → m ≡ [] → spelledAll m ≡ []
-unfolding spelledAll
-all_nil m e = ap spelledAll e
+all_nil : (m : List Record) → m ≡ [] → spelled_all m ≡ []
+unfolding spelled_all
+all_nil m e = ap spelled_all e
 
-all_cons : (m : List Record) (x : Record) (m' : List Record) → m ≡ x ∷ m' → spelledAll m ≡ spelled x ++ spelledAll m'
-unfolding spelledAll
-all_cons m x m' e = ap spelledAll e
+all_cons : (m : List Record) (x : Record) (m' : List Record) → m ≡ x ∷ m' → spelled_all m ≡ spelled x ++ spelled_all m'
+unfolding spelled_all
+all_cons m x m' e = ap spelled_all e
 
 pub record Going (levels trace : List ℕ) (w₀ : Weave) (from : ℕ) (old : List ℕ) (k : ℕ) (w : Weave) (at : ℕ) (out : List ℕ) : Type 0 where
-  pub going : (m : List Record) → Left levels trace w₀ m → length m ≤ most → from + length (spelledAll m) ≤ length old →
-      (m' : List Record) × Left levels trace w m' × (k + length m' ≤ most) × (at + length (spelledAll m') ≡ from + length (spelledAll m)) × (put_at at (spelledAll m') out ≡ put_at from (spelledAll m) old)
+  pub going : (m : List Record) → Left levels trace w₀ m → length m ≤ most → from + length (spelled_all m) ≤ length old →
+      (m' : List Record) × Left levels trace w m' × (k + length m' ≤ most) × (at + length (spelled_all m') ≡ from + length (spelled_all m)) × (put_at at (spelled_all m') out ≡ put_at from (spelled_all m) old)
 
 pub going_start : (levels trace : List ℕ) (w : Weave) (from : ℕ) (old : List ℕ) → Going levels trace w from old 0 w from old
 going_start levels trace w from old = record { going = λ m l n h. (m, l, omega arith, refl, refl) }
 
-put-nothing : (at : ℕ) (w out : List ℕ) → w ≡ [] → put_at at w out ≡ out
-put-nothing at w out e =
+put_nothing : (at : ℕ) (w out : List ℕ) → w ≡ [] → put_at at w out ≡ out
+put_nothing at w out e =
     ap (λ (x : List ℕ). put_at at x out) e ∙ ap (λ (n : ℕ). take at out ++ drop n out) (add-zero at) ∙ take-append-drop at out
 
 module _ {levels trace : List ℕ} {w₀ : Weave} {from : ℕ} {old : List ℕ} {k : ℕ} {w : Weave} {at : ℕ} {out : List ℕ} (g : Going levels trace w₀ from old k w at out) where
@@ -45,8 +45,8 @@ module _ {levels trace : List ℕ} {w₀ : Weave} {from : ℕ} {old : List ℕ} 
   going_done v h = record {
     writes = λ m l n f.
         let z = g.going m l n f in
-        let q = all_nil z.0 (then-done v h z.0 z.1) in
-        (omega (arith, z.3, ap length q), sym (put-nothing at (spelledAll z.0) out q) ∙ z.4);
+        let q = all_nil z.0 (then_done v h z.0 z.1) in
+        (omega (arith, z.3, ap length q), sym (put_nothing at (spelled_all z.0) out q) ∙ z.4);
   }
 
   pub going_end : most ≤ k → WritesAll levels trace w₀ from old out at
@@ -55,7 +55,7 @@ module _ {levels trace : List ℕ} {w₀ : Weave} {from : ℕ} {old : List ℕ} 
         let z = g.going m l n f in
         let y = z.2 in
         let q = all_nil z.0 (empty z.0 (omega arith)) in
-        (omega (arith, z.3, ap length q), sym (put-nothing at (spelledAll z.0) out q) ∙ z.4);
+        (omega (arith, z.3, ap length q), sym (put_nothing at (spelled_all z.0) out q) ∙ z.4);
   }
 
   pub going_next : {r : Woven} {x : Record} {at' : ℕ} {out' : List ℕ} → Weaves levels trace w r → r.head ≡ Head.Next x → WritesLine x at out out' at' → length out ≡ length old →
@@ -66,12 +66,12 @@ module _ {levels trace : List ℕ} {w₀ : Weave} {from : ℕ} {old : List ℕ} 
         let y = then_next v h z.0 z.1 in
         let q = z.2 in
         let t = all_cons z.0 x y.0 y.2 in
-        let room : at + length (spelled x) ≤ length out = omega (arith, z.3, ap length t, length-append (spelled x) (spelledAll y.0), same) in
+        let room : at + length (spelled x) ≤ length out = omega (arith, z.3, ap length t, length-append (spelled x) (spelled_all y.0), same) in
         let c = d.writes room in (
           y.0,
           y.1,
           omega (arith, ap length y.2),
-          omega (arith, c.0, z.3, ap length t, length-append (spelled x) (spelledAll y.0)),
-          ap₂ (λ (n : ℕ) (u : List ℕ). put_at n (spelledAll y.0) u) c.0 c.1 ∙ put-put at (spelled x) (spelledAll y.0) out room ∙ ap (λ (u : List ℕ). put_at at u out) (sym t) ∙ z.4,
+          omega (arith, c.0, z.3, ap length t, length-append (spelled x) (spelled_all y.0)),
+          ap₂ (λ (n : ℕ) (u : List ℕ). put_at n (spelled_all y.0) u) c.0 c.1 ∙ put_put at (spelled x) (spelled_all y.0) out room ∙ ap (λ (u : List ℕ). put_at at u out) (sym t) ∙ z.4,
         );
   }

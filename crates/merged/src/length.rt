@@ -2,10 +2,10 @@
 ghost use Rattle.std.specs.Prelude.{◌≡◌, ◌*◌, ◌≤◌, length};
 ghost use Rattle.record.specs.declared.Event.{Event};
 ghost use Rattle.field.specs.Decimal.{decimal};
-ghost use Rattle.line.specs.Records.{spelledEvent, spelled};
-ghost use Rattle.text.specs.Texts.{textLimit, spelledAll};
-ghost use Rattle.decode.specs.Bits.{eventsOf};
-ghost use Rattle.decode.specs.Decoded.{recordsAt};
+ghost use Rattle.line.specs.Records.{spelled_event, spelled};
+ghost use Rattle.text.specs.Texts.{text_limit, spelled_all};
+ghost use Rattle.decode.specs.Bits.{events_of};
+ghost use Rattle.decode.specs.Decoded.{records_at};
 ghost use Rattle.merged.specs.Writing.{longest, CountsLevels, CountsTaken};
 
 use decode::{Bits, Out};
@@ -32,7 +32,7 @@ fn digits(value: u32) -> usize
 
 // From the channel's letter to the LF: letter and tab, then a word of three letters and the LF, or the byte's word and both bytes.
 fn flash_length(e: FlashEvent) -> usize
-    ensures { result ≡ length (spelledEvent (Event.Flash e)) }
+    ensures { result ≡ length (spelled_event (Event.Flash e)) }
 {
     match e {
         FlashEvent::Select => 6,
@@ -45,7 +45,7 @@ fn flash_length(e: FlashEvent) -> usize
 
 // The same, where a byte has its acknowledge bit beside it.
 fn eeprom_length(e: EepromEvent) -> usize
-    ensures { result ≡ length (spelledEvent (Event.Eeprom e)) }
+    ensures { result ≡ length (spelled_event (Event.Eeprom e)) }
 {
     match e {
         EepromEvent::Start => 6,
@@ -58,7 +58,7 @@ fn eeprom_length(e: EepromEvent) -> usize
 
 // The same, with words of two, three and four letters.
 fn wire_length(e: LineEvent) -> usize
-    ensures { result ≡ length (spelledEvent (Event.Line e)) }
+    ensures { result ≡ length (spelled_event (Event.Line e)) }
 {
     match e {
         LineEvent::SupplyOn => 5,
@@ -70,7 +70,7 @@ fn wire_length(e: LineEvent) -> usize
 
 // The rest of the line after the stamp and its tab.
 fn event_length(event: Event) -> usize
-    ensures { result ≡ length (spelledEvent event) }
+    ensures { result ≡ length (spelled_event event) }
 {
     match event {
         Event::Flash(e) => flash_length(e),
@@ -89,7 +89,7 @@ fn line_length(rec: Record) -> usize
 
 // The lines of what is given at a stamp.
 fn out_length(stamp: u32, out: Out) -> usize
-    ensures { (result ≡ length (spelledAll (recordsAt stamp (eventsOf out)))) × (result ≤ longest * 2) }
+    ensures { (result ≡ length (spelled_all (records_at stamp (events_of out)))) × (result ≤ longest * 2) }
 {
     match out {
         Out::Nothing => 0,
@@ -103,8 +103,8 @@ fn out_length(stamp: u32, out: Out) -> usize
 
 // The lines of all that the capture gives, of both buses, behind its line a.
 pub(crate) fn levels_length(levels: &[u8], a: Level, from: usize) -> usize
-    requires { length levels.now ≤ textLimit }
-    ensures { CountsLevels levels.now a from result × (result ≤ longest * 4 * textLimit) }
+    requires { length levels.now ≤ text_limit }
+    ensures { CountsLevels levels.now a from result × (result ≤ longest * 4 * text_limit) }
 {
     let mut at = from;
     let mut last = a;
@@ -134,8 +134,8 @@ pub(crate) fn levels_length(levels: &[u8], a: Level, from: usize) -> usize
 
 // The lines of all that is taken from the logger's trace: they stand there as they are written.
 pub(crate) fn taken_length(trace: &[u8], from: usize) -> usize
-    requires { length trace.now ≤ textLimit }
-    ensures { CountsTaken trace.now from result × (result ≤ textLimit) }
+    requires { length trace.now ≤ text_limit }
+    ensures { CountsTaken trace.now from result × (result ≤ text_limit) }
 {
     let mut at = from;
     let mut sum: usize = 0;

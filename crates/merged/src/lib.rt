@@ -1,7 +1,7 @@
 // The merged text (document 02, request 4/12): whether there is room for it first, then its lines, so that an output that is too short stays as it is.
 ghost use Rattle.std.specs.Prelude.{◌≡◌, ◌≤◌, length};
-ghost use Rattle.text.specs.Texts.{textLimit};
-ghost use Rattle.merged.specs.Merging.{outputsOf, wroteAs, Merges};
+ghost use Rattle.text.specs.Texts.{text_limit};
+ghost use Rattle.merged.specs.Merging.{outputs_of, wrote_as, Merges};
 ghost use Rattle.merged.specs.Writing.{HasRoom, WritesLine, WritesAll, WritesText};
 
 use judge::Judged;
@@ -20,7 +20,7 @@ pub const ROOM: usize = 540553;
 
 // Whether so many bytes have room for the text. Lines are only counted where they may not have it. No order is asked: behind the first line of each text every line is read once.
 fn has_room(levels: &[u8], trace: &[u8], a: Level, at: usize, first: usize, bytes: usize) -> bool
-    requires { (length levels.now ≤ textLimit) × (length trace.now ≤ textLimit) }
+    requires { (length levels.now ≤ text_limit) × (length trace.now ≤ text_limit) }
     ensures { HasRoom levels.now trace.now a at first bytes result }
 {
     if ROOM <= bytes {
@@ -92,7 +92,7 @@ fn write_text(levels: &[u8], trace: &[u8], start: Weave, board: Board, output: &
 
 // Refusal 1, then both texts are judged, then 10, then the text is written.
 pub fn merge(levels: &[u8], trace: &[u8], output: &mut [u8], res: &mut [u8]) -> u32
-    ensures { Merges levels.now trace.now (outputsOf output.old res.old) (wroteAs result (outputsOf output.new res.new)) }
+    ensures { Merges levels.now trace.now (outputs_of output.old res.old) (wrote_as result (outputs_of output.new res.new)) }
 {
     if res.len() != record::RESULT {
         return buffers::put_answer(res, record::answer_number(Answer::BadBuffers), 0, 0, 0);

@@ -2,7 +2,7 @@
 use mathlib.Core.Path.{◌≡◌, refl, subst, ◌∙◌}
 use mathlib.Core.Bool.{false, not}
 use mathlib.Core.List.{List, [], ◌∷◌}
-use Rattle.law.specs.Choice.{of-both, true-not-false}
+use Rattle.law.specs.Choice.{of_both, true_not_false}
 use Rattle.law.specs.Words.{All}
 use Rattle.record.specs.declared.Board.{Board}
 use Rattle.record.specs.declared.Record.{Record}
@@ -13,48 +13,48 @@ use Rattle.flash.proofs.Lost.{step_keeps}
 use Rattle.flash.specs.declared.Flash.{Flash}
 use Rattle.flash.specs.Step as flash-rules
 use Rattle.controls.specs.declared.Controls.{Controls}
-use Rattle.controls.specs.Play.{eventMoved, movedOf, lostOf}
+use Rattle.controls.specs.Play.{event_moved, moved_of, lost_of}
 use Rattle.meaning.specs.Meaning.{F, E}
-use Rattle.tied.specs.Orders.{afterBuses, afterLines}
+use Rattle.tied.specs.Orders.{after_buses, after_lines}
 use Rattle.orders.specs.declared.Held.{Held}
 use Rattle.orders.specs.declared.Tied.{Tied}
-use Rattle.orders.specs.Stamp.{played, busesFrom, lines_from}
-use Rattle.orders.specs.Verdicts.{tiedOf}
-use Rattle.orders.specs.LineStates.{ofLine, OfBus}
-use Rattle.orders.specs.Lost.{isOff, NotOff, StatusStays}
+use Rattle.orders.specs.Stamp.{played, buses_from, lines_from}
+use Rattle.orders.specs.Verdicts.{tied_of}
+use Rattle.orders.specs.LineStates.{of_line, OfBus}
+use Rattle.orders.specs.Lost.{is_off, NotOff, StatusStays}
 
 -- ---- one record
 module _ (b : Board) where
-  keeps-by : (s : Controls) (e : Event) → isOff e ≡ false → lostOf (eventMoved b s e).controls ≡ lostOf s
-  keeps-by s (event.Flash e) n = step_keeps s.flash e s.lines b.sector
-  keeps-by s (event.Eeprom e) n = refl
-  keeps-by s (event.Line SupplyOn) n = refl
-  keeps-by s (event.Line SupplyOff) n = absurd (true-not-false n)
-  keeps-by s (event.Line LockOn) n = of-both (λ (f : Flash). flash-rules.lostOf f ≡ lostOf s) (not s.lines.lock) _ _ refl refl
-  keeps-by s (event.Line LockOff) n = refl
+  keeps_by : (s : Controls) (e : Event) → is_off e ≡ false → lost_of (event_moved b s e).controls ≡ lost_of s
+  keeps_by s (event.Flash e) n = step_keeps s.flash e s.lines b.sector
+  keeps_by s (event.Eeprom e) n = refl
+  keeps_by s (event.Line SupplyOn) n = refl
+  keeps_by s (event.Line SupplyOff) n = absurd (true_not_false n)
+  keeps_by s (event.Line LockOn) n = of_both (λ (f : Flash). flash-rules.lost_of f ≡ lost_of s) (not s.lines.lock) _ _ refl refl
+  keeps_by s (event.Line LockOff) n = refl
 
-  pub keeps : (s : Controls) (r : Record) → NotOff r → lostOf (played b s r) ≡ lostOf s
-  unfolding movedOf
-  keeps s r n = keeps-by s r.event n
+  pub keeps : (s : Controls) (r : Record) → NotOff r → lost_of (played b s r) ≡ lost_of s
+  unfolding moved_of
+  keeps s r n = keeps_by s r.event n
 
-  bus-not-off : (e : Event) → ofLine e ≡ false → isOff e ≡ false
-  bus-not-off (event.Flash e) o = refl
-  bus-not-off (event.Eeprom e) o = refl
-  bus-not-off (event.Line e) o = absurd (true-not-false o)
+  bus_not_off : (e : Event) → of_line e ≡ false → is_off e ≡ false
+  bus_not_off (event.Flash e) o = refl
+  bus_not_off (event.Eeprom e) o = refl
+  bus_not_off (event.Line e) o = absurd (true_not_false o)
 
   -- ---- all records
-  buses-keep : (rs : List Record) → All OfBus rs → (s : Controls) → lostOf (afterBuses (played b) rs s) ≡ lostOf s
-  unfolding All afterBuses
-  buses-keep [] a s = refl
-  buses-keep (r ∷ rs) a s = buses-keep rs a.1 (played b s r) ∙ keeps s r (bus-not-off r.event a.0)
+  buses_keep : (rs : List Record) → All OfBus rs → (s : Controls) → lost_of (after_buses (played b) rs s) ≡ lost_of s
+  unfolding All after_buses
+  buses_keep [] a s = refl
+  buses_keep (r ∷ rs) a s = buses_keep rs a.1 (played b s r) ∙ keeps s r (bus_not_off r.event a.0)
 
-  lines_keep : (rs : List Record) → All NotOff rs → (s : Controls) → lostOf (afterLines (played b) rs s) ≡ lostOf s
-  unfolding All afterLines
+  lines_keep : (rs : List Record) → All NotOff rs → (s : Controls) → lost_of (after_lines (played b) rs s) ≡ lost_of s
+  unfolding All after_lines
   lines_keep [] a s = refl
   lines_keep (r ∷ rs) a s = lines_keep rs a.1 (played b s r) ∙ keeps s r a.0
 
-pub all_stay : (b : Board) (h : Held) (t u : Tied) → t ≡ tiedOf h F b → u ≡ tiedOf h E b → All OfBus (busesFrom t 0) → All OfBus (busesFrom u 0) → All NotOff (lines_from t 0) → StatusStays b h
+pub all_stay : (b : Board) (h : Held) (t u : Tied) → t ≡ tied_of h F b → u ≡ tied_of h E b → All OfBus (buses_from t 0) → All OfBus (buses_from u 0) → All NotOff (lines_from t 0) → StatusStays b h
 all_stay b h t u p q f e l s =
     lines_keep b _ (subst (λ (x : Tied). All NotOff (lines_from x 0)) p l) _ ∙
-    buses-keep b _ (subst (λ (x : Tied). All OfBus (busesFrom x 0)) q e) _ ∙
-    buses-keep b _ (subst (λ (x : Tied). All OfBus (busesFrom x 0)) p f) s
+    buses_keep b _ (subst (λ (x : Tied). All OfBus (buses_from x 0)) q e) _ ∙
+    buses_keep b _ (subst (λ (x : Tied). All OfBus (buses_from x 0)) p f) s

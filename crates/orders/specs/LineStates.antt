@@ -6,44 +6,44 @@ use Rattle.record.specs.declared.Event.{Event}
 use Rattle.record.specs.declared.Event.TheVariants as event
 use Rattle.record.specs.declared.LineEvent.TheVariants.{SupplyOn, SupplyOff, LockOn, LockOff}
 use Rattle.record.specs.declared.Lines.{Lines}
-use Rattle.record.specs.LineRules.{linesAfter}
+use Rattle.record.specs.LineRules.{lines_after}
 use Rattle.meaning.specs.Meaning.{L, most}
 use Rattle.orders.specs.Stamp.{lines_from}
 use Rattle.orders.specs.declared.Tied.{Tied}
 use Rattle.orders.specs.declared.Told.{Told}
 
-abbrev pub ofLine : Event → Bool
-ofLine (event.Flash e) = false
-ofLine (event.Eeprom e) = false
-ofLine (event.Line e) = true
+abbrev pub of_line : Event → Bool
+of_line (event.Flash e) = false
+of_line (event.Eeprom e) = false
+of_line (event.Line e) = true
 
 abbrev pub OfBus : Record → Type 0
-OfBus r = ofLine r.event ≡ false
+OfBus r = of_line r.event ≡ false
 
 -- a record of another channel than L, which an array of the lines' may hold too, repeats nothing and leaves the lines
-abbrev pub repeatsOf : Lines → Event → Bool
-repeatsOf l (event.Flash e) = false
-repeatsOf l (event.Eeprom e) = false
-repeatsOf l (event.Line SupplyOn) = l.supply
-repeatsOf l (event.Line SupplyOff) = not l.supply
-repeatsOf l (event.Line LockOn) = l.lock
-repeatsOf l (event.Line LockOff) = not l.lock
+abbrev pub repeats_of : Lines → Event → Bool
+repeats_of l (event.Flash e) = false
+repeats_of l (event.Eeprom e) = false
+repeats_of l (event.Line SupplyOn) = l.supply
+repeats_of l (event.Line SupplyOff) = not l.supply
+repeats_of l (event.Line LockOn) = l.lock
+repeats_of l (event.Line LockOff) = not l.lock
 
-abbrev pub linesNext : Lines → Event → Lines
-linesNext l (event.Flash e) = l
-linesNext l (event.Eeprom e) = l
-linesNext l (event.Line e) = linesAfter l e
+abbrev pub lines_next : Lines → Event → Lines
+lines_next l (event.Flash e) = l
+lines_next l (event.Eeprom e) = l
+lines_next l (event.Line e) = lines_after l e
 
 -- the records that repeat nothing, after these lines
 unfoldable pub telling : Lines → List Record → List Record
 telling l [] = []
-telling l (r ∷ rs) = pick (repeatsOf l r.event) (telling l rs) (r ∷ telling (linesNext l r.event) rs)
+telling l (r ∷ rs) = pick (repeats_of l r.event) (telling l rs) (r ∷ telling (lines_next l r.event) rs)
 
 -- the same, one record after the other
-abbrev pub toldWith : Told → Record → Told
-toldWith t r =
-    pick (repeatsOf t.lines r.event) t
-    (record { records = set t.records t.count r; count = t.count + 1; lines = linesNext t.lines r.event })
+abbrev pub told_with : Told → Record → Told
+told_with t r =
+    pick (repeats_of t.lines r.event) t
+    (record { records = set t.records t.count r; count = t.count + 1; lines = lines_next t.lines r.event })
 
 -- only the line records are others: those that repeat nothing
 pub record OnlyTelling (h : Tied) (l : Lines) (r : Tied) : Type 0 where

@@ -6,20 +6,20 @@ use Rattle.record.specs.declared.Event.{Event}
 use Rattle.record.specs.declared.Event.TheVariants as event
 use Rattle.record.specs.declared.LineEvent.TheVariants.{SupplyOn, SupplyOff, LockOn, LockOff}
 use Rattle.controls.specs.declared.Controls.{Controls}
-use Rattle.controls.specs.Play.{lostOf}
+use Rattle.controls.specs.Play.{lost_of}
 use Rattle.orders.specs.Verdicts.{last_of}
 use Rattle.orders.specs.declared.Held.{Held}
 
-abbrev pub isOff : Event → Bool
-isOff (event.Flash e) = false
-isOff (event.Eeprom e) = false
-isOff (event.Line SupplyOn) = false
-isOff (event.Line SupplyOff) = true
-isOff (event.Line LockOn) = false
-isOff (event.Line LockOff) = false
+abbrev pub is_off : Event → Bool
+is_off (event.Flash e) = false
+is_off (event.Eeprom e) = false
+is_off (event.Line SupplyOn) = false
+is_off (event.Line SupplyOff) = true
+is_off (event.Line LockOn) = false
+is_off (event.Line LockOff) = false
 
 abbrev pub NotOff : Record → Type 0
-NotOff r = isOff r.event ≡ false
+NotOff r = is_off r.event ≡ false
 
 abbrev pub StatusStays : Board → Held → Type 0
-StatusStays b h = (s : Controls) → lostOf (last_of b h s) ≡ lostOf s
+StatusStays b h = (s : Controls) → lost_of (last_of b h s) ≡ lost_of s

@@ -3,9 +3,9 @@ use Rattle.std.specs.Prelude.{◌≡◌, ℕ, ◌+◌, ◌≤◌, ◌<◌, List,
 use Rattle.record.specs.declared.Record.{Record}
 use Rattle.record.specs.declared.Board.{Board}
 use Rattle.controls.specs.declared.Controls.{Controls}
-use Rattle.controls.specs.Play.{movedOf}
+use Rattle.controls.specs.Play.{moved_of}
 use Rattle.meaning.specs.Meaning.{F, L, most}
-use Rattle.tied.specs.Orders.{Agree, AgreeBus, AnyTwo, after, busesFirst, afterBuses, saidBuses}
+use Rattle.tied.specs.Orders.{Agree, AgreeBus, AnyTwo, after, buses_first, after_buses, said_buses}
 use Rattle.tied.specs.Orders
 use Rattle.orders.specs.declared.Said.{Said}
 use Rattle.orders.specs.declared.Tied.{Tied}
@@ -13,16 +13,16 @@ use Rattle.orders.specs.declared.Outcome.{Outcome}
 
 -- a record, of a bus or of a line, on the controls, and its reply
 abbrev pub played : Board → Controls → Record → Controls
-played b s r = (movedOf b s r).controls
+played b s r = (moved_of b s r).controls
 
 abbrev pub bus : Tied → Controls → Record → Controls
-bus h s r = (movedOf h.board s r).controls
+bus h s r = (moved_of h.board s r).controls
 
 abbrev pub reply : Tied → Controls → Record → Said
-reply h s r = record { reply = (movedOf h.board s r).reply }
+reply h s r = record { reply = (moved_of h.board s r).reply }
 
 abbrev pub line : Tied → Controls → Record → Controls
-line h s r = (movedOf h.board s r).controls
+line h s r = (moved_of h.board s r).controls
 
 -- the indices are within the counts, and those within the arrays: a bus's has room for the most of F, which is that of E
 pub record Within (h : Tied) (ib il : ℕ) : Type 0 where
@@ -31,17 +31,17 @@ pub record Within (h : Tied) (ib il : ℕ) : Type 0 where
   pub line : il ≤ h.line_count
   pub lines : h.line_count ≤ most L
 
-abbrev pub busesFrom : Tied → ℕ → List Record
-busesFrom h i = drop i (take h.bus_count h.buses)
+abbrev pub buses_from : Tied → ℕ → List Record
+buses_from h i = drop i (take h.bus_count h.buses)
 
 abbrev pub lines_from : Tied → ℕ → List Record
 lines_from h i = drop i (take h.line_count h.lines)
 
-abbrev pub repliesFrom : Tied → Outcome → ℕ → List Said
-repliesFrom h w i = drop i (take h.bus_count w.replies)
+abbrev pub replies_from : Tied → Outcome → ℕ → List Said
+replies_from h w i = drop i (take h.bus_count w.replies)
 
 unfoldable pub AgreeFrom : Tied → ℕ → ℕ → Controls → Outcome → Type 0
-AgreeFrom h ib il s w = Agree (bus h) (reply h) (line h) (busesFrom h ib) (lines_from h il) s w.controls (repliesFrom h w ib)
+AgreeFrom h ib il s w = Agree (bus h) (reply h) (line h) (buses_from h ib) (lines_from h il) s w.controls (replies_from h w ib)
 
 -- every order whose first record is this line record
 unfoldable pub LineAgrees : Record → Tied → ℕ → ℕ → Controls → Outcome → Type 0
@@ -50,7 +50,7 @@ LineAgrees r h ib il s w = AgreeFrom h ib (il + 1) (line h s r) w
 -- every order whose first record is this bus record
 unfoldable pub BusAgrees : Record → Tied → ℕ → ℕ → Controls → Outcome → Type 0
 BusAgrees r h ib il s w =
-    AgreeBus (bus h) (reply h) (line h) r (busesFrom h (ib + 1)) (lines_from h il) s w.controls (repliesFrom h w ib)
+    AgreeBus (bus h) (reply h) (line h) r (buses_from h (ib + 1)) (lines_from h il) s w.controls (replies_from h w ib)
 
 -- where a bus record is left: every order of what follows it and a line record agrees from these controls
 unfoldable pub Met : Tied → ℕ → ℕ → Controls → Outcome → Type 0
@@ -58,14 +58,14 @@ Met h ib il m w = ib < h.bus_count → AgreeFrom h (ib + 1) (il + 1) m w
 
 -- all bus records were played
 pub record BusesPlayed (h : Tied) (s : Controls) (w : Outcome) : Type 0 where
-  pub controls : w.controls ≡ afterBuses (bus h) (busesFrom h 0) s
-  pub replies : repliesFrom h w 0 ≡ saidBuses (bus h) (reply h) (busesFrom h 0) s
+  pub controls : w.controls ≡ after_buses (bus h) (buses_from h 0) s
+  pub replies : replies_from h w 0 ≡ said_buses (bus h) (reply h) (buses_from h 0) s
 
 -- the outcome of the reference order
 pub record Reference (h : Tied) (s : Controls) (w : Outcome) : Type 0 where
-  pub controls : w.controls ≡ after (bus h) (reply h) (line h) (busesFirst (busesFrom h 0) (lines_from h 0)) s
-  pub replies : repliesFrom h w 0 ≡ Orders.replies (bus h) (reply h) (line h) (busesFirst (busesFrom h 0) (lines_from h 0)) s
+  pub controls : w.controls ≡ after (bus h) (reply h) (line h) (buses_first (buses_from h 0) (lines_from h 0)) s
+  pub replies : replies_from h w 0 ≡ Orders.replies (bus h) (reply h) (line h) (buses_first (buses_from h 0) (lines_from h 0)) s
 
 -- any two orders of the records agree, in the last controls and in every reply
 unfoldable pub Settled : Tied → Controls → Type 0
-Settled h s = AnyTwo (bus h) (reply h) (line h) (busesFrom h 0) (lines_from h 0) s
+Settled h s = AnyTwo (bus h) (reply h) (line h) (buses_from h 0) (lines_from h 0) s

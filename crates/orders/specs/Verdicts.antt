@@ -6,9 +6,9 @@ use Rattle.record.specs.declared.Board.{Board}
 use Rattle.record.specs.declared.Record.{Record}
 use Rattle.record.specs.declared.Skeleton.{Skeleton}
 use Rattle.controls.specs.declared.Controls.{Controls}
-use Rattle.controls.specs.Play.{movedOf, lostOf}
+use Rattle.controls.specs.Play.{moved_of, lost_of}
 use Rattle.meaning.specs.Meaning.{Channel, F, E, L, same, most}
-use Rattle.tied.specs.Orders.{AnyTwo, afterBuses, afterLines}
+use Rattle.tied.specs.Orders.{AnyTwo, after_buses, after_lines}
 use Rattle.orders.specs.Stamp.{played}
 use Rattle.orders.specs.declared.Held.{Held}
 use Rattle.orders.specs.declared.Tied.{Tied}
@@ -37,11 +37,11 @@ abbrev pub Few : Held → Type 0
 Few h = (c : Channel) → count_of h c ≤ most c
 
 -- a bus's records with the lines'
-abbrev pub tiedOf : Held → Channel → Board → Tied
-tiedOf h c b = record { buses = array_of h c; bus_count = count_of h c; lines = h.lines; line_count = h.line_count; board = b }
+abbrev pub tied_of : Held → Channel → Board → Tied
+tied_of h c b = record { buses = array_of h c; bus_count = count_of h c; lines = h.lines; line_count = h.line_count; board = b }
 
 abbrev pub says : Board → Controls → Record → Skeleton
-says b s r = (movedOf b s r).reply
+says b s r = (moved_of b s r).reply
 
 -- any two orders of a bus's records with the lines' agree, in the last controls and in every skeleton reply
 unfoldable pub OrdersAgree : Board → List Record → List Record → Controls → Type 0
@@ -53,17 +53,17 @@ BusesAgree b rs s = (c : Channel) → same c L ≡ false → OrdersAgree b (rs c
 
 -- the controls after all records of F, of E and of L
 abbrev pub last_of : Board → Held → Controls → Controls
-last_of b h s = afterLines (played b) (held_of h L) (afterBuses (played b) (held_of h E) (afterBuses (played b) (held_of h F) s))
+last_of b h s = after_lines (played b) (held_of h L) (after_buses (played b) (held_of h E) (after_buses (played b) (held_of h F) s))
 
 unfoldable pub Judged : Board → Held → Controls → Verdict → Type 0
 Judged b h s Crowded = TooMany h
 Judged b h s Differ = Few h × (BusesAgree b (held_of h) s → ⊥)
-Judged b h s Lost = Few h × BusesAgree b (held_of h) s × (lostOf (last_of b h s) ≡ true)
-Judged b h s Passes = Few h × BusesAgree b (held_of h) s × (lostOf (last_of b h s) ≡ false)
+Judged b h s Lost = Few h × BusesAgree b (held_of h) s × (lost_of (last_of b h s) ≡ true)
+Judged b h s Passes = Few h × BusesAgree b (held_of h) s × (lost_of (last_of b h s) ≡ false)
 
 -- a verdict as the answer that has its number by the paper; one that passes stops nothing
-abbrev pub verdictAnswer : Verdict → Answer
-verdictAnswer Crowded = answer.Crowded
-verdictAnswer Differ = answer.OrdersDiffer
-verdictAnswer Lost = answer.StatusLost
-verdictAnswer Passes = answer.Settled
+abbrev pub verdict_answer : Verdict → Answer
+verdict_answer Crowded = answer.Crowded
+verdict_answer Differ = answer.OrdersDiffer
+verdict_answer Lost = answer.StatusLost
+verdict_answer Passes = answer.Settled

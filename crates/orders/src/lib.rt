@@ -3,13 +3,13 @@
 ghost use Rattle.std.specs.Prelude.{◌≡◌, true, ◌+◌, ◌<◌};
 ghost use Rattle.law.specs.Deciding.{Decides};
 ghost use Rattle.law.specs.Words.{All};
-ghost use Rattle.controls.specs.Play.{movedOf, lostOf};
-ghost use Rattle.tied.specs.Orders.{afterLines};
-ghost use Rattle.orders.specs.Verdicts.{tiedOf, Few, last_of, Judged};
+ghost use Rattle.controls.specs.Play.{moved_of, lost_of};
+ghost use Rattle.tied.specs.Orders.{after_lines};
+ghost use Rattle.orders.specs.Verdicts.{tied_of, Few, last_of, Judged};
 ghost use Rattle.meaning.specs.Meaning.{F, E, L, most};
-ghost use Rattle.orders.specs.Stamp.{played, line, Within, BusesPlayed, Reference, Settled, LineAgrees, BusAgrees, Met, busesFrom, lines_from};
-ghost use Rattle.orders.specs.Lost.{isOff, NotOff, StatusStays};
-ghost use Rattle.orders.specs.LineStates.{ofLine, OfBus, repeatsOf, linesNext, toldWith, OnlyTelling};
+ghost use Rattle.orders.specs.Stamp.{played, line, Within, BusesPlayed, Reference, Settled, LineAgrees, BusAgrees, Met, buses_from, lines_from};
+ghost use Rattle.orders.specs.Lost.{is_off, NotOff, StatusStays};
+ghost use Rattle.orders.specs.LineStates.{of_line, OfBus, repeats_of, lines_next, told_with, OnlyTelling};
 
 use controls::Controls;
 use record::{Board, Event, LineEvent, Lines, Record, Skeleton};
@@ -82,7 +82,7 @@ fn meeting(bus: Record, line: Record, board: Board, controls: Controls) -> Contr
 
 // Whether this bus record, played after a line record, leads where the two lead the other way round, and says what it should.
 fn closes(rec: Record, board: Board, controls: Controls, wanted: Skeleton, met: Controls) -> bool
-    ensures { result ≡ true → movedOf board controls rec ≡ record { controls = met; reply = wanted } }
+    ensures { result ≡ true → moved_of board controls rec ≡ record { controls = met; reply = wanted } }
 {
     let step = controls.play(board, rec);
     let reply = step.reply;
@@ -201,7 +201,7 @@ fn play_buses(tied: Tied, controls: Controls) -> Outcome
 // All line records.
 fn play_lines(tied: Tied, controls: Controls) -> Controls
     requires { Within tied 0 0 }
-    ensures { result ≡ afterLines (line tied) (lines_from tied 0) controls }
+    ensures { result ≡ after_lines (line tied) (lines_from tied 0) controls }
 {
     let mut cur = controls;
     let mut i: usize = 0;
@@ -250,7 +250,7 @@ fn tried(tied: Tied, controls: Controls) -> bool
 }
 
 fn of_line(rec: Record) -> bool
-    ensures { result ≡ ofLine rec.event }
+    ensures { result ≡ of_line rec.event }
 {
     let event = rec.event;
     match event {
@@ -263,7 +263,7 @@ fn of_line(rec: Record) -> bool
 // Whether no line record stands among the bus records: then these leave the lines as they are. It is so of what `stamps` gathers; `judge` takes any arrays.
 fn own(tied: Tied) -> bool
     requires { Within tied 0 0 }
-    ensures { result ≡ true → All OfBus (busesFrom tied 0) }
+    ensures { result ≡ true → All OfBus (buses_from tied 0) }
 {
     let mut i: usize = 0;
     while i < tied.bus_count {
@@ -278,7 +278,7 @@ fn own(tied: Tied) -> bool
 
 // Whether a record repeats the state of its line.
 fn repeats(lines: Lines, rec: Record) -> bool
-    ensures { result ≡ repeatsOf lines rec.event }
+    ensures { result ≡ repeats_of lines rec.event }
 {
     let event = rec.event;
     match event {
@@ -295,7 +295,7 @@ fn repeats(lines: Lines, rec: Record) -> bool
 
 // The lines after any record.
 fn lines_next(lines: Lines, rec: Record) -> Lines
-    ensures { result ≡ linesNext lines rec.event }
+    ensures { result ≡ lines_next lines rec.event }
 {
     let event = rec.event;
     match event {
@@ -308,7 +308,7 @@ fn lines_next(lines: Lines, rec: Record) -> Lines
 // The next record of the lines is kept, unless it repeats a state.
 fn tell(told: Told, rec: Record) -> Told
     requires { told.count < most L }
-    ensures { result ≡ toldWith told rec }
+    ensures { result ≡ told_with told rec }
 {
     let lines = told.lines;
     if repeats(lines, rec) {
@@ -365,7 +365,7 @@ fn agree(tied: Tied, controls: Controls) -> bool
 }
 
 fn tied_flash(held: Held, board: Board) -> Tied
-    ensures { result ≡ tiedOf held F board }
+    ensures { result ≡ tied_of held F board }
 {
     let buses = held.flash;
     let lines = held.lines;
@@ -379,7 +379,7 @@ fn tied_flash(held: Held, board: Board) -> Tied
 }
 
 fn tied_eeprom(held: Held, board: Board) -> Tied
-    ensures { result ≡ tiedOf held E board }
+    ensures { result ≡ tied_of held E board }
 {
     let buses = held.eeprom;
     let lines = held.lines;
@@ -405,7 +405,7 @@ fn last(held: Held, board: Board, controls: Controls) -> Controls
 }
 
 fn is_off(rec: Record) -> bool
-    ensures { result ≡ isOff rec.event }
+    ensures { result ≡ is_off rec.event }
 {
     let event = rec.event;
     match event {
@@ -455,7 +455,7 @@ fn status_stays(held: Held, board: Board) -> bool
 // Whether the status is lost after all records.
 fn lost_after(held: Held, board: Board, controls: Controls) -> bool
     requires { Few held }
-    ensures { result ≡ lostOf (last_of board held controls) }
+    ensures { result ≡ lost_of (last_of board held controls) }
 {
     if status_stays(held, board) {
         return controls.lost();

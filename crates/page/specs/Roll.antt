@@ -11,5 +11,5 @@ roll size p [] page = page
 roll size p (d ∷ ds) page = roll size ((p + 1) % size) ds (set page p d)
 
 -- ---- the place in the whole chip after n bytes from place p on, in the own rolling of its page
-abbrev pub placeAfter : ℕ → ℕ → ℕ → ℕ
-placeAfter size p n = p / size * size + place size (p % size) n
+abbrev pub place_after : ℕ → ℕ → ℕ → ℕ
+place_after size p n = p / size * size + place size (p % size) n

@@ -1,7 +1,7 @@
 // The chips' geometry; the place after one, in a page and in a whole chip; whether two pages are the same.
 ghost use Rattle.std.specs.Prelude.{◌≡◌, ◌≤◌};
 ghost use Rattle.law.specs.Deciding.{Decides};
-ghost use Rattle.page.specs.Rolling.{rolledIn};
+ghost use Rattle.page.specs.Rolling.{rolled_in};
 
 // The flash: 256 bytes to a page, 32,768 to a sector.
 pub const FLASH_PAGE: u32 = 256;
@@ -23,7 +23,7 @@ pub const EEPROM_SIZE: u32 = 0x8000;
 
 // The place after one where `last` is the last place, of a page or of a chip.
 pub fn rolled(at: u32, last: u32) -> u32
-    ensures value { result ≡ rolledIn last at }
+    ensures value { result ≡ rolled_in last at }
     ensures upper_bound { result ≤ last }
 {
     if at < last { at + 1 } else { 0 }

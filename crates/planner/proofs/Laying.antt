@@ -9,17 +9,17 @@ use native.Mathlib.Numerals.{add-one, add-two, add-three}
 use native.Mathlib.Omega.{arith}
 use lib.ListN.{length, take, drop, set, get_or, length-append, length-drop}
 use lib.Seq.{sets, sets-eq, length-sets, length-take-le, drop-drop, get_or-take, get_or-drop, ext_get_or}
-use Rattle.law.specs.Words.{pick, byPlace}
-use Rattle.law.specs.Places.{byPlace-length, byPlace-at}
-use Rattle.page.specs.Geometry.{flashPage, flashSize, flashSectors, sectorPages}
-use Rattle.fewest.specs.Below.{joinedBelow, joined-more, joined_same, joined-blocks}
-use Rattle.fewest.specs.Entries.{Entry, sectorErase, chipErase, program}
-use Rattle.fewest.specs.Fewest.{address, spelledEntry, spelledList, page_of}
-use Rattle.fewest.specs.Plan.{inSector, eraseOf, erases, chosen, program_of, programs, planBy, erasesIn, programsIn, programIf, sectorPrograms, testIn}
-use Rattle.fewest.proofs.Attains.{in-sector}
-use Rattle.fewest.proofs.Sizes.{spelled-append, length-spelled-append, spelled-one, spelled_none, length-page}
+use Rattle.law.specs.Words.{pick, by_place}
+use Rattle.law.specs.Places.{by_place_length, by_place_at}
+use Rattle.page.specs.Geometry.{flash_page, flash_size, flash_sectors, sector_pages}
+use Rattle.fewest.specs.Below.{joined_below, joined_more, joined_same, joined_blocks}
+use Rattle.fewest.specs.Entries.{Entry, sector_erase, chip_erase, program}
+use Rattle.fewest.specs.Fewest.{address, spelled_entry, spelled_list, page_of}
+use Rattle.fewest.specs.Plan.{in_sector, erase_of, erases, chosen, program_of, programs, plan_by, erases_in, programs_in, program_if, sector_programs, test_in}
+use Rattle.fewest.proofs.Attains.{in_sector_lem}
+use Rattle.fewest.proofs.Sizes.{spelled_append, length_spelled_append, spelled_one, spelled_none, length_page}
 use Rattle.fewest.specs.declared.Test.TheVariants.{Rises}
-use Rattle.fewest.specs.Call.{laidOver}
+use Rattle.fewest.specs.Call.{laid_over}
 
 -- two runs of stores, one after the other
 pub followed : (l : List ℕ) (i : ℕ) (vs ws : List ℕ) → sets (sets l i vs) (i + length vs) ws ≡ sets l i (vs ++ ws)
@@ -36,42 +36,42 @@ landed xs ys at n e h =
     ∙ sym (sets-eq ys xs at (subst (λ (k : ℕ). at + k ≤ length xs) (sym e) h))
 
 -- what stands at the list's start
-pub laid-over : (bytes list : List ℕ) → length bytes ≤ length list → sets list 0 bytes ≡ laidOver bytes list
-unfolding laidOver
-laid-over bytes list h =
+pub laid_over_lem : (bytes list : List ℕ) → length bytes ≤ length list → sets list 0 bytes ≡ laid_over bytes list
+unfolding laid_over
+laid_over_lem bytes list h =
     let z : 0 + length bytes ≡ length bytes = omega arith in
     sets-eq bytes list 0 (subst (λ (k : ℕ). k ≤ length list) (sym z) h) ∙ ap (λ (k : ℕ). bytes ++ drop k list) z
 
 -- the next one has room
-pub room : (f : ℕ → List Entry) (n m : ℕ) → n < m → length (spelledList (joinedBelow n f)) + length (spelledList (f n)) ≤ length (spelledList (joinedBelow m f))
-unfolding joinedBelow
+pub room : (f : ℕ → List Entry) (n m : ℕ) → n < m → length (spelled_list (joined_below n f)) + length (spelled_list (f n)) ≤ length (spelled_list (joined_below m f))
+unfolding joined_below
 room f n zero l = absurd (omega arith)
 room f n (suc m) l =
-    let e = length-spelled-append (joinedBelow m f) (f m) in
-    ⊎_elim (λ (w : n ≡ m). subst (λ (k : ℕ). length (spelledList (joinedBelow k f)) + length (spelledList (f k)) ≤ length (spelledList (joinedBelow m f ++ f m))) (sym w) (omega (arith, e)))
+    let e = length_spelled_append (joined_below m f) (f m) in
+    ⊎_elim (λ (w : n ≡ m). subst (λ (k : ℕ). length (spelled_list (joined_below k f)) + length (spelled_list (f k)) ≤ length (spelled_list (joined_below m f ++ f m))) (sym w) (omega (arith, e)))
     (λ (w : n < m). omega (arith, e, room f n m w))
     (eq-or-lt_of_le (le_of_suc-le-suc l))
 
 -- a part of that length filled place by place is the page
-pub page-filled : (wanted part : List ℕ) (n : ℕ) → length part ≡ flashPage → length wanted ≡ flashSize → n < 512
-    → byPlace (λ q x. get_or wanted (256 * n + q) 0) 0 part ≡ page_of wanted n
-page-filled wanted part n e w l =
+pub page_filled : (wanted part : List ℕ) (n : ℕ) → length part ≡ flash_page → length wanted ≡ flash_size → n < 512
+    → by_place (λ q x. get_or wanted (256 * n + q) 0) 0 part ≡ page_of wanted n
+page_filled wanted part n e w l =
     let f : ℕ → ℕ → ℕ = λ q x. get_or wanted (256 * n + q) 0 in
-    ext_get_or 0 (byPlace f 0 part) (page_of wanted n) (byPlace-length f 0 part ∙ e ∙ sym (length-page wanted n w l))
+    ext_get_or 0 (by_place f 0 part) (page_of wanted n) (by_place_length f 0 part ∙ e ∙ sym (length_page wanted n w l))
     (λ i h.
-    let b : i < length part = subst (λ (k : ℕ). i < k) (byPlace-length f 0 part) h in
-    byPlace-at f i part b ∙ sym (get_or-take 256 (drop (256 * n) wanted) i 0 (subst (λ (k : ℕ). i < k) e b) ∙ get_or-drop (256 * n) wanted i 0))
+    let b : i < length part = subst (λ (k : ℕ). i < k) (by_place_length f 0 part) h in
+    by_place_at f i part b ∙ sym (get_or-take 256 (drop (256 * n) wanted) i 0 (subst (λ (k : ℕ). i < k) e b) ∙ get_or-drop (256 * n) wanted i 0))
 
 -- four stores are a run of stores
-pub four-set : (l : List ℕ) (at a b c d : ℕ) → set (set (set (set l at a) (at + 1) b) (at + 2) c) (at + 3) d ≡ sets l at (a ∷ b ∷ c ∷ d ∷ [])
-four-set l at a b c d = simp (add-one, add-two, add-three)
+pub four_set : (l : List ℕ) (at a b c d : ℕ) → set (set (set (set l at a) (at + 1) b) (at + 2) c) (at + 3) d ≡ sets l at (a ∷ b ∷ c ∷ d ∷ [])
+four_set l at a b c d = simp (add-one, add-two, add-three)
 
 -- a program's entry: its head, and its page in the part behind it
-pub program-laid : (xs ys zs wanted : List ℕ) (n at m : ℕ) → ys ≡ sets xs at (3 ∷ address (256 * n)) → zs ≡ page_of wanted n
-    → length wanted ≡ flashSize → n < 512 → m ≡ 256 → at + 260 ≤ length xs
-    → take (at + 4) ys ++ (zs ++ drop m (drop (at + 4) ys)) ≡ sets xs at (spelledEntry (program n (page_of wanted n)))
-program-laid xs ys zs wanted n at m p q w l e h =
-    let long : length zs ≡ m = ap (λ (z : List ℕ). length z) q ∙ length-page wanted n w l ∙ sym e in
+pub program_laid : (xs ys zs wanted : List ℕ) (n at m : ℕ) → ys ≡ sets xs at (3 ∷ address (256 * n)) → zs ≡ page_of wanted n
+    → length wanted ≡ flash_size → n < 512 → m ≡ 256 → at + 260 ≤ length xs
+    → take (at + 4) ys ++ (zs ++ drop m (drop (at + 4) ys)) ≡ sets xs at (spelled_entry (program n (page_of wanted n)))
+program_laid xs ys zs wanted n at m p q w l e h =
+    let long : length zs ≡ m = ap (λ (z : List ℕ). length z) q ∙ length_page wanted n w l ∙ sym e in
     let same : length ys ≡ length xs = ap (λ (z : List ℕ). length z) p ∙ length-sets xs at (3 ∷ address (256 * n)) in
     landed ys zs (at + 4) m long (omega arith)
     ∙ ap₂ (λ (y z : List ℕ). sets y (at + 4) z) p q
@@ -79,113 +79,113 @@ program-laid xs ys zs wanted n at m p q w l e h =
 
 -- an entry that is put where it is needed
 module _ (o : Entry) (yes : Bool) (at : ℕ) where
-  spelled-yes : yes ≡ true → spelledList (pick yes (o ∷ []) []) ≡ spelledEntry o
-  spelled-yes t = ap (λ (b : Bool). spelledList (pick b (o ∷ []) [])) t ∙ spelled-one o
+  spelled_yes : yes ≡ true → spelled_list (pick yes (o ∷ []) []) ≡ spelled_entry o
+  spelled_yes t = ap (λ (b : Bool). spelled_list (pick b (o ∷ []) [])) t ∙ spelled_one o
 
-  spelled-no : yes ≡ false → spelledList (pick yes (o ∷ []) []) ≡ []
-  spelled-no t = ap (λ (b : Bool). spelledList (pick b (o ∷ []) [])) t ∙ spelled_none
+  spelled_no : yes ≡ false → spelled_list (pick yes (o ∷ []) []) ≡ []
+  spelled_no t = ap (λ (b : Bool). spelled_list (pick b (o ∷ []) [])) t ∙ spelled_none
 
-  pub put-yes : (l r : List ℕ) → yes ≡ true → r ≡ sets l at (spelledEntry o) → r ≡ sets l at (spelledList (pick yes (o ∷ []) []))
-  put-yes l r t e = e ∙ ap (sets l at) (sym (spelled-yes t))
+  pub put_yes : (l r : List ℕ) → yes ≡ true → r ≡ sets l at (spelled_entry o) → r ≡ sets l at (spelled_list (pick yes (o ∷ []) []))
+  put_yes l r t e = e ∙ ap (sets l at) (sym (spelled_yes t))
 
-  pub put-no : (l : List ℕ) → yes ≡ false → l ≡ sets l at (spelledList (pick yes (o ∷ []) []))
-  put-no l t = ap (sets l at) (sym (spelled-no t))
+  pub put_no : (l : List ℕ) → yes ≡ false → l ≡ sets l at (spelled_list (pick yes (o ∷ []) []))
+  put_no l t = ap (sets l at) (sym (spelled_no t))
 
-  pub next-yes : (n : ℕ) → yes ≡ true → length (spelledEntry o) ≡ n → at + n ≡ at + length (spelledList (pick yes (o ∷ []) []))
-  next-yes n t e = ap (λ (k : ℕ). at + k) (sym (ap (λ (l : List ℕ). length l) (spelled-yes t) ∙ e))
+  pub next_yes : (n : ℕ) → yes ≡ true → length (spelled_entry o) ≡ n → at + n ≡ at + length (spelled_list (pick yes (o ∷ []) []))
+  next_yes n t e = ap (λ (k : ℕ). at + k) (sym (ap (λ (l : List ℕ). length l) (spelled_yes t) ∙ e))
 
-  pub next-no : yes ≡ false → at ≡ at + length (spelledList (pick yes (o ∷ []) []))
-  next-no t = let z = ap (λ (l : List ℕ). length l) (spelled-no t) in omega (arith, z)
+  pub next_no : yes ≡ false → at ≡ at + length (spelled_list (pick yes (o ∷ []) []))
+  next_no t = let z = ap (λ (l : List ℕ). length l) (spelled_no t) in omega (arith, z)
 
-  pub fits-yes : (n m : ℕ) → yes ≡ true → length (spelledEntry o) ≡ n → at + length (spelledList (pick yes (o ∷ []) [])) ≤ m → at + n ≤ m
-  fits-yes n m t e h = subst (λ (k : ℕ). k ≤ m) (sym (next-yes n t e)) h
+  pub fits_yes : (n m : ℕ) → yes ≡ true → length (spelled_entry o) ≡ n → at + length (spelled_list (pick yes (o ∷ []) [])) ≤ m → at + n ≤ m
+  fits_yes n m t e h = subst (λ (k : ℕ). k ≤ m) (sym (next_yes n t e)) h
 
-pub erase-entry : (s : ℕ) → 1 ∷ address (32768 * s) ≡ spelledEntry (sectorErase (suc s))
-erase-entry s = ap (λ (k : ℕ). 1 ∷ address (32768 * k)) (omega arith)
+pub erase_entry : (s : ℕ) → 1 ∷ address (32768 * s) ≡ spelled_entry (sector_erase (suc s))
+erase_entry s = ap (λ (k : ℕ). 1 ∷ address (32768 * k)) (omega arith)
 
 -- a loop that lays the lists of the numbers below a bound one after the other, from `first` on
 module _ (f : ℕ → List Entry) (first : ℕ) (l₀ : List ℕ) where
-  abbrev pub laidAt : ℕ → ℕ → Type 0
-  laidAt n at = at ≡ first + length (spelledList (joinedBelow n f))
+  abbrev pub laid_at : ℕ → ℕ → Type 0
+  laid_at n at = at ≡ first + length (spelled_list (joined_below n f))
 
-  abbrev pub laidSo : ℕ → List ℕ → Type 0
-  laidSo n l = l ≡ sets l₀ first (spelledList (joinedBelow n f))
+  abbrev pub laid_so : ℕ → List ℕ → Type 0
+  laid_so n l = l ≡ sets l₀ first (spelled_list (joined_below n f))
 
-  pub lay-start : laidAt 0 first
-  unfolding joinedBelow spelledList
-  lay-start = omega arith
+  pub lay_start : laid_at 0 first
+  unfolding joined_below spelled_list
+  lay_start = omega arith
 
-  pub lay-none : laidSo 0 l₀
-  unfolding joinedBelow spelledList
-  lay-none = refl
+  pub lay_none : laid_so 0 l₀
+  unfolding joined_below spelled_list
+  lay_none = refl
 
-  pub lay-room : (bound n at : ℕ) (l : List ℕ) (x : List Entry) → n < bound → x ≡ f n → laidAt n at
-      → first + length (spelledList (joinedBelow bound f)) ≤ length l₀ → length l ≡ length l₀ → at + length (spelledList x) ≤ length l
-  lay-room bound n at l x h e a fits same =
-      let same_bytes = ap (λ (y : List Entry). length (spelledList y)) e in
+  pub lay_room : (bound n at : ℕ) (l : List ℕ) (x : List Entry) → n < bound → x ≡ f n → laid_at n at
+      → first + length (spelled_list (joined_below bound f)) ≤ length l₀ → length l ≡ length l₀ → at + length (spelled_list x) ≤ length l
+  lay_room bound n at l x h e a fits same =
+      let same_bytes = ap (λ (y : List Entry). length (spelled_list y)) e in
       omega (arith, room f n bound h, same_bytes)
 
-  lay-bytes : (n : ℕ) → spelledList (joinedBelow (n + 1) f) ≡ spelledList (joinedBelow n f) ++ spelledList (f n)
-  lay-bytes n = ap spelledList (joined-more n f) ∙ spelled-append (joinedBelow n f) (f n)
+  lay_bytes : (n : ℕ) → spelled_list (joined_below (n + 1) f) ≡ spelled_list (joined_below n f) ++ spelled_list (f n)
+  lay_bytes n = ap spelled_list (joined_more n f) ∙ spelled_append (joined_below n f) (f n)
 
-  pub lay_at : (n at next : ℕ) (x : List Entry) → x ≡ f n → laidAt n at → next ≡ at + length (spelledList x) → laidAt (n + 1) next
+  pub lay_at : (n at next : ℕ) (x : List Entry) → x ≡ f n → laid_at n at → next ≡ at + length (spelled_list x) → laid_at (n + 1) next
   lay_at n at next x e a h =
-      let same_bytes = ap (λ (y : List Entry). length (spelledList y)) e in
-      let longer = ap (λ (y : List ℕ). length y) (lay-bytes n) ∙ length-append (spelledList (joinedBelow n f)) (spelledList (f n)) in
+      let same_bytes = ap (λ (y : List Entry). length (spelled_list y)) e in
+      let longer = ap (λ (y : List ℕ). length y) (lay_bytes n) ∙ length-append (spelled_list (joined_below n f)) (spelled_list (f n)) in
       omega (arith, same_bytes, longer)
 
-  pub lay-so : (n at : ℕ) (l r : List ℕ) (x : List Entry) → x ≡ f n → laidAt n at → laidSo n l → r ≡ sets l at (spelledList x) → laidSo (n + 1) r
-  lay-so n at l r x e a s h =
+  pub lay_so : (n at : ℕ) (l r : List ℕ) (x : List Entry) → x ≡ f n → laid_at n at → laid_so n l → r ≡ sets l at (spelled_list x) → laid_so (n + 1) r
+  lay_so n at l r x e a s h =
       h
-      ∙ ap (λ (y : List Entry). sets l at (spelledList y)) e
-      ∙ ap₂ (λ (y : List ℕ) (k : ℕ). sets y k (spelledList (f n))) s a
-      ∙ followed l₀ first (spelledList (joinedBelow n f)) (spelledList (f n))
-      ∙ ap (sets l₀ first) (sym (lay-bytes n))
+      ∙ ap (λ (y : List Entry). sets l at (spelled_list y)) e
+      ∙ ap₂ (λ (y : List ℕ) (k : ℕ). sets y k (spelled_list (f n))) s a
+      ∙ followed l₀ first (spelled_list (joined_below n f)) (spelled_list (f n))
+      ∙ ap (sets l₀ first) (sym (lay_bytes n))
 
-  pub lay-length : (at : ℕ) (l r : List ℕ) (x : List Entry) → r ≡ sets l at (spelledList x) → length l ≡ length l₀ → length r ≡ length l₀
-  lay-length at l r x e h = ap (λ (y : List ℕ). length y) e ∙ length-sets l at (spelledList x) ∙ h
+  pub lay_length : (at : ℕ) (l r : List ℕ) (x : List Entry) → r ≡ sets l at (spelled_list x) → length l ≡ length l₀ → length r ≡ length l₀
+  lay_length at l r x e h = ap (λ (y : List ℕ). length y) e ∙ length-sets l at (spelled_list x) ∙ h
 
 -- the chip's erase
-pub chip-entry : (present wanted : List ℕ) (chip : Bool) → chip ≡ true → spelledList (erases present wanted chip) ≡ 2 ∷ address 0
+pub chip_entry : (present wanted : List ℕ) (chip : Bool) → chip ≡ true → spelled_list (erases present wanted chip) ≡ 2 ∷ address 0
 unfolding erases
-chip-entry present wanted chip t = ap (λ (b : Bool). spelledList (erases present wanted b)) t ∙ spelled-one chipErase
+chip_entry present wanted chip t = ap (λ (b : Bool). spelled_list (erases present wanted b)) t ∙ spelled_one chip_erase
 
 -- ---- the whole plan
 
 module _ (present wanted : List ℕ) (status : ℕ) (chip : Bool) where
-  plan-bytes : spelledList (planBy present wanted status chip) ≡ spelledList (erases present wanted chip) ++ spelledList (programs present wanted status chip)
-  unfolding planBy
-  plan-bytes = spelled-append (erases present wanted chip) (programs present wanted status chip)
+  plan_bytes : spelled_list (plan_by present wanted status chip) ≡ spelled_list (erases present wanted chip) ++ spelled_list (programs present wanted status chip)
+  unfolding plan_by
+  plan_bytes = spelled_append (erases present wanted chip) (programs present wanted status chip)
 
-  pub plan-size : length (spelledList (planBy present wanted status chip)) ≡ length (spelledList (erases present wanted chip)) + length (spelledList (programs present wanted status chip))
-  unfolding planBy
-  plan-size = length-spelled-append (erases present wanted chip) (programs present wanted status chip)
+  pub plan_size : length (spelled_list (plan_by present wanted status chip)) ≡ length (spelled_list (erases present wanted chip)) + length (spelled_list (programs present wanted status chip))
+  unfolding plan_by
+  plan_size = length_spelled_append (erases present wanted chip) (programs present wanted status chip)
 
-  pub erases-fit : (m : ℕ) → length (spelledList (planBy present wanted status chip)) ≤ m → length (spelledList (erases present wanted chip)) ≤ m
-  erases-fit m h = omega (arith, plan-size)
+  pub erases_fit : (m : ℕ) → length (spelled_list (plan_by present wanted status chip)) ≤ m → length (spelled_list (erases present wanted chip)) ≤ m
+  erases_fit m h = omega (arith, plan_size)
 
-  pub programs-fit : (at m : ℕ) → at ≡ length (spelledList (erases present wanted chip)) → length (spelledList (planBy present wanted status chip)) ≤ m
-      → at + length (spelledList (programs present wanted status chip)) ≤ m
-  programs-fit at m e h = omega (arith, plan-size)
+  pub programs_fit : (at m : ℕ) → at ≡ length (spelled_list (erases present wanted chip)) → length (spelled_list (plan_by present wanted status chip)) ≤ m
+      → at + length (spelled_list (programs present wanted status chip)) ≤ m
+  programs_fit at m e h = omega (arith, plan_size)
 
-  pub plan-laid : (l x y : List ℕ) (at : ℕ) → x ≡ sets l 0 (spelledList (erases present wanted chip)) → at ≡ length (spelledList (erases present wanted chip))
-      → y ≡ sets x at (spelledList (programs present wanted status chip)) → length (spelledList (planBy present wanted status chip)) ≤ length l
-      → y ≡ laidOver (spelledList (planBy present wanted status chip)) l
-  plan-laid l x y at p a q h =
+  pub plan_laid : (l x y : List ℕ) (at : ℕ) → x ≡ sets l 0 (spelled_list (erases present wanted chip)) → at ≡ length (spelled_list (erases present wanted chip))
+      → y ≡ sets x at (spelled_list (programs present wanted status chip)) → length (spelled_list (plan_by present wanted status chip)) ≤ length l
+      → y ≡ laid_over (spelled_list (plan_by present wanted status chip)) l
+  plan_laid l x y at p a q h =
       q
-      ∙ ap₂ (λ (z : List ℕ) (k : ℕ). sets z k (spelledList (programs present wanted status chip))) p (a ∙ omega arith)
-      ∙ followed l 0 (spelledList (erases present wanted chip)) (spelledList (programs present wanted status chip))
-      ∙ ap (λ (z : List ℕ). sets l 0 z) (sym plan-bytes)
-      ∙ laid-over (spelledList (planBy present wanted status chip)) l h
+      ∙ ap₂ (λ (z : List ℕ) (k : ℕ). sets z k (spelled_list (programs present wanted status chip))) p (a ∙ omega arith)
+      ∙ followed l 0 (spelled_list (erases present wanted chip)) (spelled_list (programs present wanted status chip))
+      ∙ ap (λ (z : List ℕ). sets l 0 z) (sym plan_bytes)
+      ∙ laid_over_lem (spelled_list (plan_by present wanted status chip)) l h
 
 -- the programs of all sectors, one after the other
-pub by-sectors : (present wanted : List ℕ) (status : ℕ) (chip : Bool)
-    → joinedBelow flashSectors (λ s. sectorPrograms present wanted (testIn present wanted status chip s) s) ≡ programs present wanted status chip
-unfolding programs sectorPrograms
-by-sectors present wanted status chip =
-    joined_same flashSectors (λ s. joinedBelow sectorPages (λ j. programIf present wanted (testIn present wanted status chip s) (sectorPages * s + j)))
-    (λ s. joinedBelow sectorPages (λ j. program_of present wanted status chip (sectorPages * s + j)))
+pub by_sectors : (present wanted : List ℕ) (status : ℕ) (chip : Bool)
+    → joined_below flash_sectors (λ s. sector_programs present wanted (test_in present wanted status chip s) s) ≡ programs present wanted status chip
+unfolding programs sector_programs
+by_sectors present wanted status chip =
+    joined_same flash_sectors (λ s. joined_below sector_pages (λ j. program_if present wanted (test_in present wanted status chip s) (sector_pages * s + j)))
+    (λ s. joined_below sector_pages (λ j. program_of present wanted status chip (sector_pages * s + j)))
     (λ s l.
-    joined_same sectorPages (λ j. programIf present wanted (testIn present wanted status chip s) (sectorPages * s + j)) (λ j. program_of present wanted status chip (sectorPages * s + j))
-    (λ j b. ap (λ (i : ℕ). programIf present wanted (testIn present wanted status chip i) (sectorPages * s + j)) (sym (in-sector s j b))))
-    ∙ joined-blocks sectorPages flashSectors (program_of present wanted status chip)
+    joined_same sector_pages (λ j. program_if present wanted (test_in present wanted status chip s) (sector_pages * s + j)) (λ j. program_of present wanted status chip (sector_pages * s + j))
+    (λ j b. ap (λ (i : ℕ). program_if present wanted (test_in present wanted status chip i) (sector_pages * s + j)) (sym (in_sector_lem s j b))))
+    ∙ joined_blocks sector_pages flash_sectors (program_of present wanted status chip)

@@ -3,14 +3,14 @@
 ghost use Rattle.std.specs.Prelude.{◌≡◌, true, false, [], ◌∷◌, suc, ◌+◌, ◌≤◌, ◌<◌, length};
 ghost use Rattle.std.proofs.lemmas.List.Edits.{sets};
 ghost use Rattle.law.specs.Words.{pick};
-ghost use Rattle.page.specs.Geometry.{flashPage, flashSize, flashSectors, sectorPages, chipPages};
-ghost use Rattle.flash.specs.Code.{sectorLocked};
+ghost use Rattle.page.specs.Geometry.{flash_page, flash_size, flash_sectors, sector_pages, chip_pages};
+ghost use Rattle.flash.specs.Code.{sector_locked};
 ghost use Rattle.fewest.specs.declared.Test.TheVariants.{Differs, Rises};
-ghost use Rattle.fewest.specs.Below.{one, countBelow};
-ghost use Rattle.fewest.specs.Entries.{sectorErase, program};
-ghost use Rattle.fewest.specs.Fewest.{address, spelledEntry, spelledList, page_of};
-ghost use Rattle.fewest.specs.Call.{leftAs, laidOver, Plans};
-ghost use Rattle.fewest.specs.Plan.{holds, anyIn, inPage, inSector, pagesOf, erased, testIn, erases, erasesIn, sectorPrograms, programs, programsIn, planBy, byChip, differsLocked, fitting, madeAs, laid, made};
+ghost use Rattle.fewest.specs.Below.{one, count_below};
+ghost use Rattle.fewest.specs.Entries.{sector_erase, program};
+ghost use Rattle.fewest.specs.Fewest.{address, spelled_entry, spelled_list, page_of};
+ghost use Rattle.fewest.specs.Call.{left_as, laid_over, Plans};
+ghost use Rattle.fewest.specs.Plan.{holds, any_in, in_page, in_sector, pages_of, erased, test_in, erases, erases_in, sector_programs, programs, programs_in, plan_by, by_chip, differs_locked, fitting, made_as, laid, made};
 
 use fewest::Test;
 use record::PlanAnswer;
@@ -61,7 +61,7 @@ fn either(x: bool, y: bool) -> bool
 // Does the test hold of any of `count` places from `first` on? Every place is looked at.
 fn any_in(present: &[u8], wanted: &[u8], test: Test, first: usize, count: usize) -> bool
     requires { (first + count ≤ length present.now) × (first + count ≤ length wanted.now) }
-    ensures { result ≡ anyIn present.now wanted.now test first count }
+    ensures { result ≡ any_in present.now wanted.now test first count }
 {
     let mut some = false;
     let mut q: usize = 0;
@@ -75,16 +75,16 @@ fn any_in(present: &[u8], wanted: &[u8], test: Test, first: usize, count: usize)
 
 // Of any place of page n?
 fn in_page(present: &[u8], wanted: &[u8], test: Test, n: usize) -> bool
-    requires { (length present.now ≡ flashSize) × (length wanted.now ≡ flashSize) × (n < chipPages) }
-    ensures { result ≡ inPage present.now wanted.now test n }
+    requires { (length present.now ≡ flash_size) × (length wanted.now ≡ flash_size) × (n < chip_pages) }
+    ensures { result ≡ in_page present.now wanted.now test n }
 {
     any_in(present, wanted, test, PAGE * n, PAGE)
 }
 
 // Of any place of sector s, counted from 0?
 fn in_sector(present: &[u8], wanted: &[u8], test: Test, s: usize) -> bool
-    requires { (length present.now ≡ flashSize) × (length wanted.now ≡ flashSize) × (s < flashSectors) }
-    ensures { result ≡ inSector present.now wanted.now test s }
+    requires { (length present.now ≡ flash_size) × (length wanted.now ≡ flash_size) × (s < flash_sectors) }
+    ensures { result ≡ in_sector present.now wanted.now test s }
 {
     any_in(present, wanted, test, SECTOR * s, SECTOR)
 }
@@ -101,9 +101,9 @@ fn one_if(b: bool) -> usize
 
 // How many pages of sector s the test holds of.
 fn pages_of(present: &[u8], wanted: &[u8], test: Test, s: usize) -> usize
-    requires { (length present.now ≡ flashSize) × (length wanted.now ≡ flashSize) × (s < flashSectors) }
-    ensures value { result ≡ pagesOf present.now wanted.now test s }
-    ensures small { result ≤ sectorPages }
+    requires { (length present.now ≡ flash_size) × (length wanted.now ≡ flash_size) × (s < flash_sectors) }
+    ensures value { result ≡ pages_of present.now wanted.now test s }
+    ensures small { result ≤ sector_pages }
 {
     let mut count: usize = 0;
     let mut j: usize = 0;
@@ -117,15 +117,15 @@ fn pages_of(present: &[u8], wanted: &[u8], test: Test, s: usize) -> usize
 
 // Is sector s locked? The remainder is s itself; with it the number fits a byte for any s.
 fn is_locked(status: u8, s: usize) -> bool
-    requires { s < flashSectors }
-    ensures { result ≡ sectorLocked status (suc s) }
+    requires { s < flash_sectors }
+    ensures { result ≡ sector_locked status (suc s) }
 {
     flash::sector_locked(status, (s % SECTORS + 1) as u8)
 }
 
 // Is it erased, by the chip's erase or by its own?
 fn is_erased(present: &[u8], wanted: &[u8], status: u8, chip: bool, s: usize) -> bool
-    requires { (length present.now ≡ flashSize) × (length wanted.now ≡ flashSize) × (s < flashSectors) }
+    requires { (length present.now ≡ flash_size) × (length wanted.now ≡ flash_size) × (s < flash_sectors) }
     ensures { result ≡ erased present.now wanted.now status chip s }
 {
     if chip {
@@ -136,8 +136,8 @@ fn is_erased(present: &[u8], wanted: &[u8], status: u8, chip: bool, s: usize) ->
 
 // Which of its pages are programmed.
 fn test_in(present: &[u8], wanted: &[u8], status: u8, chip: bool, s: usize) -> Test
-    requires { (length present.now ≡ flashSize) × (length wanted.now ≡ flashSize) × (s < flashSectors) }
-    ensures { result ≡ testIn present.now wanted.now status chip s }
+    requires { (length present.now ≡ flash_size) × (length wanted.now ≡ flash_size) × (s < flash_sectors) }
+    ensures { result ≡ test_in present.now wanted.now status chip s }
 {
     if is_erased(present, wanted, status, chip, s) {
         return Test::Unblank;
@@ -147,9 +147,9 @@ fn test_in(present: &[u8], wanted: &[u8], status: u8, chip: bool, s: usize) -> T
 
 // How many erases the plan has.
 fn count_erases(present: &[u8], wanted: &[u8], chip: bool) -> usize
-    requires { (length present.now ≡ flashSize) × (length wanted.now ≡ flashSize) }
-    ensures value { result ≡ erasesIn present.now wanted.now chip }
-    ensures small { result ≤ flashSectors }
+    requires { (length present.now ≡ flash_size) × (length wanted.now ≡ flash_size) }
+    ensures value { result ≡ erases_in present.now wanted.now chip }
+    ensures small { result ≤ flash_sectors }
 {
     if chip {
         return 1;
@@ -159,9 +159,9 @@ fn count_erases(present: &[u8], wanted: &[u8], chip: bool) -> usize
 
 // How many sectors have a bit that has to rise.
 fn count_rising(present: &[u8], wanted: &[u8]) -> usize
-    requires { (length present.now ≡ flashSize) × (length wanted.now ≡ flashSize) }
-    ensures value { result ≡ countBelow flashSectors (inSector present.now wanted.now Rises) }
-    ensures small { result ≤ flashSectors }
+    requires { (length present.now ≡ flash_size) × (length wanted.now ≡ flash_size) }
+    ensures value { result ≡ count_below flash_sectors (in_sector present.now wanted.now Rises) }
+    ensures small { result ≤ flash_sectors }
 {
     let mut count: usize = 0;
     let mut s: usize = 0;
@@ -175,9 +175,9 @@ fn count_rising(present: &[u8], wanted: &[u8]) -> usize
 
 // How many programs the plan has.
 fn count_programs(present: &[u8], wanted: &[u8], status: u8, chip: bool) -> usize
-    requires { (length present.now ≡ flashSize) × (length wanted.now ≡ flashSize) }
-    ensures value { result ≡ programsIn present.now wanted.now status chip }
-    ensures small { result ≤ chipPages }
+    requires { (length present.now ≡ flash_size) × (length wanted.now ≡ flash_size) }
+    ensures value { result ≡ programs_in present.now wanted.now status chip }
+    ensures small { result ≤ chip_pages }
 {
     let mut count: usize = 0;
     let mut s: usize = 0;
@@ -191,8 +191,8 @@ fn count_programs(present: &[u8], wanted: &[u8], status: u8, chip: bool) -> usiz
 
 // How many entries, and so cycles.
 fn count_all(present: &[u8], wanted: &[u8], status: u8, chip: bool) -> usize
-    requires { (length present.now ≡ flashSize) × (length wanted.now ≡ flashSize) }
-    ensures { result ≡ erasesIn present.now wanted.now chip + programsIn present.now wanted.now status chip }
+    requires { (length present.now ≡ flash_size) × (length wanted.now ≡ flash_size) }
+    ensures { result ≡ erases_in present.now wanted.now chip + programs_in present.now wanted.now status chip }
 {
     let erased = count_erases(present, wanted, chip);
     let programmed = count_programs(present, wanted, status, chip);
@@ -201,8 +201,8 @@ fn count_all(present: &[u8], wanted: &[u8], status: u8, chip: bool) -> usize
 
 // Does a chip erase pay?
 fn by_chip(present: &[u8], wanted: &[u8], status: u8) -> bool
-    requires { (length present.now ≡ flashSize) × (length wanted.now ≡ flashSize) }
-    ensures { result ≡ byChip present.now wanted.now status }
+    requires { (length present.now ≡ flash_size) × (length wanted.now ≡ flash_size) }
+    ensures { result ≡ by_chip present.now wanted.now status }
 {
     let with = count_all(present, wanted, status, true);
     let without = count_all(present, wanted, status, false);
@@ -211,8 +211,8 @@ fn by_chip(present: &[u8], wanted: &[u8], status: u8) -> bool
 
 // Refusal 15 in sector s: it is locked, and a byte of it differs.
 fn locked_differs(present: &[u8], wanted: &[u8], status: u8, s: usize) -> bool
-    requires { (length present.now ≡ flashSize) × (length wanted.now ≡ flashSize) × (s < flashSectors) }
-    ensures { result ≡ pick (sectorLocked status (suc s)) (inSector present.now wanted.now Differs s) false }
+    requires { (length present.now ≡ flash_size) × (length wanted.now ≡ flash_size) × (s < flash_sectors) }
+    ensures { result ≡ pick (sector_locked status (suc s)) (in_sector present.now wanted.now Differs s) false }
 {
     if is_locked(status, s) {
         return in_sector(present, wanted, Test::Differs, s);
@@ -222,8 +222,8 @@ fn locked_differs(present: &[u8], wanted: &[u8], status: u8, s: usize) -> bool
 
 // Refusal 15: a byte that differs stands in a locked sector.
 fn differs_locked(present: &[u8], wanted: &[u8], status: u8) -> bool
-    requires { (length present.now ≡ flashSize) × (length wanted.now ≡ flashSize) }
-    ensures { result ≡ differsLocked present.now wanted.now status }
+    requires { (length present.now ≡ flash_size) × (length wanted.now ≡ flash_size) }
+    ensures { result ≡ differs_locked present.now wanted.now status }
 {
     let mut s: usize = 0;
     while s < SECTORS {
@@ -248,7 +248,7 @@ fn put_head(list: &mut [u8], at: usize, kind: u8, place: usize)
 
 // The part that is lent for a page's data: page n of the wanted content.
 fn fill_page(part: &mut [u8], wanted: &[u8], n: usize)
-    requires { (length part.old ≡ flashPage) × (length wanted.now ≡ flashSize) × (n < chipPages) }
+    requires { (length part.old ≡ flash_page) × (length wanted.now ≡ flash_size) × (n < chip_pages) }
     ensures { part.new ≡ page_of wanted.now n }
 {
     let first = PAGE * n;
@@ -261,8 +261,8 @@ fn fill_page(part: &mut [u8], wanted: &[u8], n: usize)
 
 // The entry of a program: its data is written through the part of the list that is lent for it.
 fn put_program(list: &mut [u8], at: usize, wanted: &[u8], n: usize)
-    requires { (at + 260 ≤ length list.old) × (length wanted.now ≡ flashSize) × (n < chipPages) }
-    ensures { list.new ≡ sets list.old at (spelledEntry (program n (page_of wanted.now n))) }
+    requires { (at + 260 ≤ length list.old) × (length wanted.now ≡ flash_size) × (n < chip_pages) }
+    ensures { list.new ≡ sets list.old at (spelled_entry (program n (page_of wanted.now n))) }
 {
     put_head(list, at, PAGE_PROGRAM, PAGE * n);
     let from = at + HEAD;
@@ -272,9 +272,9 @@ fn put_program(list: &mut [u8], at: usize, wanted: &[u8], n: usize)
 
 // The entry of a program where its page is chosen, else nothing; where the next entry goes.
 fn put_program_if(list: &mut [u8], at: usize, yes: bool, wanted: &[u8], n: usize) -> usize
-    requires { (length wanted.now ≡ flashSize) × (n < chipPages) × (at + length (spelledList (pick yes (program n (page_of wanted.now n) ∷ []) [])) ≤ length list.old) }
-    ensures list_after { list.new ≡ sets list.old at (spelledList (pick yes (program n (page_of wanted.now n) ∷ []) [])) }
-    ensures next { result ≡ at + length (spelledList (pick yes (program n (page_of wanted.now n) ∷ []) [])) }
+    requires { (length wanted.now ≡ flash_size) × (n < chip_pages) × (at + length (spelled_list (pick yes (program n (page_of wanted.now n) ∷ []) [])) ≤ length list.old) }
+    ensures list_after { list.new ≡ sets list.old at (spelled_list (pick yes (program n (page_of wanted.now n) ∷ []) [])) }
+    ensures next { result ≡ at + length (spelled_list (pick yes (program n (page_of wanted.now n) ∷ []) [])) }
 {
     if yes {
         put_program(list, at, wanted, n);
@@ -285,9 +285,9 @@ fn put_program_if(list: &mut [u8], at: usize, yes: bool, wanted: &[u8], n: usize
 
 // The entry of a sector's erase where it is needed, else nothing; where the next entry goes. Sector s counts from 0.
 fn put_erase_if(list: &mut [u8], at: usize, yes: bool, s: usize) -> usize
-    requires { (s < flashSectors) × (at + length (spelledList (pick yes (sectorErase (suc s) ∷ []) [])) ≤ length list.old) }
-    ensures list_after { list.new ≡ sets list.old at (spelledList (pick yes (sectorErase (suc s) ∷ []) [])) }
-    ensures next { result ≡ at + length (spelledList (pick yes (sectorErase (suc s) ∷ []) [])) }
+    requires { (s < flash_sectors) × (at + length (spelled_list (pick yes (sector_erase (suc s) ∷ []) [])) ≤ length list.old) }
+    ensures list_after { list.new ≡ sets list.old at (spelled_list (pick yes (sector_erase (suc s) ∷ []) [])) }
+    ensures next { result ≡ at + length (spelled_list (pick yes (sector_erase (suc s) ∷ []) [])) }
 {
     if yes {
         put_head(list, at, SECTOR_ERASE, SECTOR * s);
@@ -298,9 +298,9 @@ fn put_erase_if(list: &mut [u8], at: usize, yes: bool, s: usize) -> usize
 
 // The erases: the chip's, or those of the sectors where one is needed. Where the next entry goes.
 fn put_erases(list: &mut [u8], present: &[u8], wanted: &[u8], chip: bool) -> usize
-    requires { (length present.now ≡ flashSize) × (length wanted.now ≡ flashSize) × (length (spelledList (erases present.now wanted.now chip)) ≤ length list.old) }
-    ensures list_after { list.new ≡ sets list.old 0 (spelledList (erases present.now wanted.now chip)) }
-    ensures next { result ≡ length (spelledList (erases present.now wanted.now chip)) }
+    requires { (length present.now ≡ flash_size) × (length wanted.now ≡ flash_size) × (length (spelled_list (erases present.now wanted.now chip)) ≤ length list.old) }
+    ensures list_after { list.new ≡ sets list.old 0 (spelled_list (erases present.now wanted.now chip)) }
+    ensures next { result ≡ length (spelled_list (erases present.now wanted.now chip)) }
 {
     if chip {
         put_head(list, 0, CHIP_ERASE, 0);
@@ -311,9 +311,9 @@ fn put_erases(list: &mut [u8], present: &[u8], wanted: &[u8], chip: bool) -> usi
 
 // The erases of the sectors where one is needed, by rising address.
 fn put_sector_erases(list: &mut [u8], present: &[u8], wanted: &[u8]) -> usize
-    requires { (length present.now ≡ flashSize) × (length wanted.now ≡ flashSize) × (length (spelledList (erases present.now wanted.now false)) ≤ length list.old) }
-    ensures list_after { list.new ≡ sets list.old 0 (spelledList (erases present.now wanted.now false)) }
-    ensures next { result ≡ length (spelledList (erases present.now wanted.now false)) }
+    requires { (length present.now ≡ flash_size) × (length wanted.now ≡ flash_size) × (length (spelled_list (erases present.now wanted.now false)) ≤ length list.old) }
+    ensures list_after { list.new ≡ sets list.old 0 (spelled_list (erases present.now wanted.now false)) }
+    ensures next { result ≡ length (spelled_list (erases present.now wanted.now false)) }
 {
     let mut at: usize = 0;
     let mut s: usize = 0;
@@ -334,9 +334,9 @@ fn put_sector_programs(
     test: Test,
     s: usize,
 ) -> usize
-    requires { (length present.now ≡ flashSize) × (length wanted.now ≡ flashSize) × (s < flashSectors) × (first + length (spelledList (sectorPrograms present.now wanted.now test s)) ≤ length list.old) }
-    ensures list_after { list.new ≡ sets list.old first (spelledList (sectorPrograms present.now wanted.now test s)) }
-    ensures next { result ≡ first + length (spelledList (sectorPrograms present.now wanted.now test s)) }
+    requires { (length present.now ≡ flash_size) × (length wanted.now ≡ flash_size) × (s < flash_sectors) × (first + length (spelled_list (sector_programs present.now wanted.now test s)) ≤ length list.old) }
+    ensures list_after { list.new ≡ sets list.old first (spelled_list (sector_programs present.now wanted.now test s)) }
+    ensures next { result ≡ first + length (spelled_list (sector_programs present.now wanted.now test s)) }
 {
     let mut at = first;
     let mut j: usize = 0;
@@ -358,8 +358,8 @@ fn put_programs(
     status: u8,
     chip: bool,
 )
-    requires { (length present.now ≡ flashSize) × (length wanted.now ≡ flashSize) × (first + length (spelledList (programs present.now wanted.now status chip)) ≤ length list.old) }
-    ensures { list.new ≡ sets list.old first (spelledList (programs present.now wanted.now status chip)) }
+    requires { (length present.now ≡ flash_size) × (length wanted.now ≡ flash_size) × (first + length (spelled_list (programs present.now wanted.now status chip)) ≤ length list.old) }
+    ensures { list.new ≡ sets list.old first (spelled_list (programs present.now wanted.now status chip)) }
 {
     let mut at = first;
     let mut s: usize = 0;
@@ -372,8 +372,8 @@ fn put_programs(
 
 // The whole plan, with a chip erase or without.
 fn put_plan(list: &mut [u8], present: &[u8], wanted: &[u8], status: u8, chip: bool)
-    requires { (length present.now ≡ flashSize) × (length wanted.now ≡ flashSize) × (length (spelledList (planBy present.now wanted.now status chip)) ≤ length list.old) }
-    ensures { list.new ≡ laidOver (spelledList (planBy present.now wanted.now status chip)) list.old }
+    requires { (length present.now ≡ flash_size) × (length wanted.now ≡ flash_size) × (length (spelled_list (plan_by present.now wanted.now status chip)) ≤ length list.old) }
+    ensures { list.new ≡ laid_over (spelled_list (plan_by present.now wanted.now status chip)) list.old }
 {
     let at = put_erases(list, present, wanted, chip);
     put_programs(list, at, present, wanted, status, chip);
@@ -388,8 +388,8 @@ struct Made {
 
 // The plan with a chip erase or without, laid where the list has room for it.
 fn lay_by(list: &mut [u8], present: &[u8], wanted: &[u8], status: u8, chip: bool) -> Made
-    requires { (length present.now ≡ flashSize) × (length wanted.now ≡ flashSize) }
-    ensures { madeAs result.answer result.number list.new ≡ laid (planBy present.now wanted.now status chip) list.old }
+    requires { (length present.now ≡ flash_size) × (length wanted.now ≡ flash_size) }
+    ensures { made_as result.answer result.number list.new ≡ laid (plan_by present.now wanted.now status chip) list.old }
 {
     let erased = count_erases(present, wanted, chip);
     let programmed = count_programs(present, wanted, status, chip);
@@ -425,7 +425,7 @@ fn fits(present: &[u8], wanted: &[u8], status: u8, res: usize) -> bool
 
 // The plan, laid where nothing forbids it; for a result of `result` bytes.
 fn make(list: &mut [u8], present: &[u8], wanted: &[u8], status: u8, res: usize) -> Made
-    ensures { madeAs result.answer result.number list.new ≡ made status present.now wanted.now list.old res }
+    ensures { made_as result.answer result.number list.new ≡ made status present.now wanted.now list.old res }
 {
     if !fits(present, wanted, status, res) {
         return Made {
@@ -446,7 +446,7 @@ fn make(list: &mut [u8], present: &[u8], wanted: &[u8], status: u8, res: usize) 
 // The list of erases and programs that takes the flash from its present content to the wanted one in the fewest write cycles: the list gets the entries at its start,
 // the result the answer and their number. What is refused leaves the list alone.
 pub fn plan(present: &[u8], wanted: &[u8], status: u8, list: &mut [u8], res: &mut [u8]) -> u32
-    ensures { Plans status present.now wanted.now list.old res.old (leftAs result list.new res.new) }
+    ensures { Plans status present.now wanted.now list.old res.old (left_as result list.new res.new) }
 {
     let made = make(list, present, wanted, status, res.len());
     let answer = made.answer;

@@ -9,33 +9,33 @@ use borrow.Author.Tests.{eq-eqb, le-ltb, ltb-false}
 use Rattle.record.specs.declared.LevelsAnswer.{LevelsAnswer}
 use Rattle.record.specs.declared.LevelsAnswer.TheVariants.{BadLevel, Together, TooShort}
 use Rattle.record.specs.declared.Record.{Record}
-use Rattle.record.specs.Answers.{levelsAnswerNumber}
-use Rattle.record.specs.Lengths.{resultLength}
+use Rattle.record.specs.Answers.{levels_answer_number}
+use Rattle.record.specs.Lengths.{result_length}
 use Rattle.field.specs.declared.spelling.Spelling.{Spelling}
 use Rattle.field.specs.Decimal.{largest}
 use Rattle.field.specs.Room.{room}
-use Rattle.field.specs.Spelling.{noBytes, put_all}
+use Rattle.field.specs.Spelling.{no_bytes, put_all}
 use Rattle.field.proofs.DecimalLaws.{decimal_digit}
-use Rattle.field.proofs.SpellingLaws.{Holds, digits-count}
-use Rattle.text.specs.Texts.{textLimit, spelledTrace}
-use Rattle.text.proofs.Fields.{field-small}
+use Rattle.field.proofs.SpellingLaws.{Holds, digits_count}
+use Rattle.text.specs.Texts.{text_limit, spelled_trace}
+use Rattle.text.proofs.Fields.{field_small}
 use Rattle.level.specs.declared.Level.{Level}
-use Rattle.level.specs.Spelled.{spelledLevel}
-use Rattle.level.proofs.Theorems.{level-length}
-use Rattle.buffers.specs.Buffers.{resultBytes, resultAfter}
-use Rattle.capture.specs.Captures.{spelledLevels, Begins, BadCapture, noLevel, faulty}
-use Rattle.capture.specs.Merge.{Judgement, refused, merged, Judges, longTrace, badTrace, longLevels, badLevels, both}
-use Rattle.merged.specs.Merging.{outputsOf, wroteAs, unwritten, written, mergeLeft, Merges}
-use Rattle.merged.proofs.Room.{text-fits}
-use Rattle.demands.proofs.Ways.{refused-line, line-number, line-fits}
-use Rattle.listing.specs.Bytes.{answer_in, place_in, countIn, fieldIn}
-use Rattle.listing.specs.Lines.{refusedLine}
-use Rattle.listing.specs.Writing.{refusalOf, count_of}
+use Rattle.level.specs.Spelled.{spelled_level}
+use Rattle.level.proofs.Theorems.{level_length}
+use Rattle.buffers.specs.Buffers.{result_bytes, result_after}
+use Rattle.capture.specs.Captures.{spelled_levels, Begins, BadCapture, no_level, faulty}
+use Rattle.capture.specs.Merge.{Judgement, refused, merged, Judges, long_trace, bad_trace, long_levels, bad_levels, both}
+use Rattle.merged.specs.Merging.{outputs_of, wrote_as, unwritten, written, merge_left, Merges}
+use Rattle.merged.proofs.Room.{text_fits}
+use Rattle.demands.proofs.Ways.{refused_line_lem, line_number, line_fits}
+use Rattle.listing.specs.Bytes.{answer_in, place_in, count_in, field_in}
+use Rattle.listing.specs.Lines.{refused_line}
+use Rattle.listing.specs.Writing.{refusal_of, count_of}
 use Rattle.listing.proofs.Lengths.{holds}
-use Rattle.listing.proofs.Told.{refusal-told, count-told}
+use Rattle.listing.proofs.Told.{refusal_told, count_told}
 use Rattle.printing.specs.Printed.{Written}
-use Rattle.printing.specs.MergePrinted.{printedFor, isMerged, mergeRoom, PrintsMerge}
-use Rattle.printing.proofs.Numbers.{answer_back, place-back, count-back, field_back}
+use Rattle.printing.specs.MergePrinted.{printed_for, is_merged, merge_room, PrintsMerge}
+use Rattle.printing.proofs.Numbers.{answer_back, place_back, count_back, field_back}
 
 -- ---- the numbers of a refusal
 pub record Small (n line field : ℕ) : Type 0 where
@@ -44,93 +44,93 @@ pub record Small (n line field : ℕ) : Type 0 where
   pub place : line ≤ largest
   pub digit : field < 10
 
-lines-many : (ls : List Level) → length ls ≤ length (spelledLevels ls)
-unfolding spelledLevels
-lines-many [] = omega arith
-lines-many (l ∷ ls) = omega (arith, level-length l, lines-many ls, length-append (spelledLevel l) (spelledLevels ls))
+lines_many : (ls : List Level) → length ls ≤ length (spelled_levels ls)
+unfolding spelled_levels
+lines_many [] = omega arith
+lines_many (l ∷ ls) = omega (arith, level_length l, lines_many ls, length-append (spelled_level l) (spelled_levels ls))
 
-begun : {ts : List Record} {levels : List ℕ} (ls : List Level) → length levels ≤ textLimit → Begins ts levels ls → length ls + 1 ≤ largest
-begun ls h b = omega (arith, lines-many ls, ap length b.stands.is, length-append (spelledLevels ls) b.stands.rest)
+begun : {ts : List Record} {levels : List ℕ} (ls : List Level) → length levels ≤ text_limit → Begins ts levels ls → length ls + 1 ≤ largest
+begun ls h b = omega (arith, lines_many ls, ap length b.stands.is, length-append (spelled_levels ls) b.stands.rest)
 
-level-line : {ts : List Record} {levels : List ℕ} {a : LevelsAnswer} {n : ℕ} → length levels ≤ textLimit → BadCapture ts levels a n → n ≤ largest
-level-line h (noLevel ls b s g) = begun ls h b
-level-line h (faulty ls l a b o s g) = begun ls h b
+level_line : {ts : List Record} {levels : List ℕ} {a : LevelsAnswer} {n : ℕ} → length levels ≤ text_limit → BadCapture ts levels a n → n ≤ largest
+level_line h (no_level ls b s g) = begun ls h b
+level_line h (faulty ls l a b o s g) = begun ls h b
 
-levels-number : (a : LevelsAnswer) → (0 < levelsAnswerNumber a) × (levelsAnswerNumber a ≤ largest)
-levels-number BadLevel = (omega arith, omega arith)
-levels-number Together = (omega arith, omega arith)
-levels-number TooShort = (omega arith, omega arith)
+levels_number : (a : LevelsAnswer) → (0 < levels_answer_number a) × (levels_answer_number a ≤ largest)
+levels_number BadLevel = (omega arith, omega arith)
+levels_number Together = (omega arith, omega arith)
+levels_number TooShort = (omega arith, omega arith)
 
 -- what can be printed of a judgement
 abbrev pub Fits : Judgement → Type 0
 Fits (refused n line field) = Small n line field
-Fits (merged b m) = length (spelledTrace b m) ≤ mergeRoom
+Fits (merged b m) = length (spelled_trace b m) ≤ merge_room
 
 too_long : Small 2 0 0
 too_long = record { some = omega arith; number = omega arith; place = omega arith; digit = omega arith }
 
 pub fits : {levels trace : List ℕ} (j : Judgement) → Judges levels trace j → Fits j
-fits j (longTrace l) = too_long
-fits j (badTrace a n f t w) =
-    let z = line-number (refused-line w) in
-    record { some = omega arith; number = omega arith; place = line-fits (ltb-false _ _ t) w; digit = omega (arith, field-small w) }
-fits j (longLevels b rs t q l) = too_long
-fits j (badLevels b rs a n t q s w) =
-    record { some = (levels-number a).0; number = (levels-number a).1; place = level-line (ltb-false _ _ s) w; digit = omega arith }
-fits j (both b rs ls m t q s c p) = text-fits (both b rs ls m t q s c p)
+fits j (long_trace l) = too_long
+fits j (bad_trace a n f t w) =
+    let z = line_number (refused_line_lem w) in
+    record { some = omega arith; number = omega arith; place = line_fits (ltb-false _ _ t) w; digit = omega (arith, field_small w) }
+fits j (long_levels b rs t q l) = too_long
+fits j (bad_levels b rs a n t q s w) =
+    record { some = (levels_number a).0; number = (levels_number a).1; place = level_line (ltb-false _ _ s) w; digit = omega arith }
+fits j (both b rs ls m t q s c p) = text_fits (both b rs ls m t q s c p)
 
 -- ---- what is read of a result
-pub refusal-numbers : {n line field : ℕ} {end : List ℕ} → Small n line field → end ≡ resultBytes n line 0 field → refusedLine (answer_in end) (place_in end) (fieldIn end) ≡ refusedLine n line field
-refusal-numbers {n} {line} {field} s e =
-    ap (λ (l : List ℕ). refusedLine (answer_in l) (place_in l) (fieldIn l)) e
-    ∙ (λ i. refusedLine (answer_back n line 0 field s.number i) (place-back n line 0 field s.place i) (field_back n line 0 field (omega (arith, s.digit)) i))
+pub refusal_numbers : {n line field : ℕ} {end : List ℕ} → Small n line field → end ≡ result_bytes n line 0 field → refused_line (answer_in end) (place_in end) (field_in end) ≡ refused_line n line field
+refusal_numbers {n} {line} {field} s e =
+    ap (λ (l : List ℕ). refused_line (answer_in l) (place_in l) (field_in l)) e
+    ∙ (λ i. refused_line (answer_back n line 0 field s.number i) (place_back n line 0 field s.place i) (field_back n line 0 field (omega (arith, s.digit)) i))
 
-pub count-number : {size : ℕ} {end : List ℕ} → size ≤ mergeRoom → end ≡ resultBytes 0 0 size 0 → countIn end ≡ size
-count-number {size} h e = ap countIn e ∙ count-back 0 0 size 0 (omega arith)
+pub count_number : {size : ℕ} {end : List ℕ} → size ≤ merge_room → end ≡ result_bytes 0 0 size 0 → count_in end ≡ size
+count_number {size} h e = ap count_in e ∙ count_back 0 0 size 0 (omega arith)
 
-result-whole : (a n c f : ℕ) {end : List ℕ} → end ≡ resultBytes a n c f → length end ≡ resultLength
-unfolding resultBytes
-result-whole a n c f e = ap length e
+result_whole : (a n c f : ℕ) {end : List ℕ} → end ≡ result_bytes a n c f → length end ≡ result_length
+unfolding result_bytes
+result_whole a n c f e = ap length e
 
-line-length : {n line field : ℕ} → Small n line field → length (refusedLine n line field) ≤ room
-unfolding refusedLine
-line-length {n} {line} {field} s =
-    simp length-append (omega (arith, digits-count n s.number, digits-count line s.place, ap length (decimal_digit field s.digit)))
+line_length_lem : {n line field : ℕ} → Small n line field → length (refused_line n line field) ≤ room
+unfolding refused_line
+line_length_lem {n} {line} {field} s =
+    simp length-append (omega (arith, digits_count n s.number, digits_count line s.place, ap length (decimal_digit field s.digit)))
 
 -- ---- what the call leaves
 abbrev pub Left : List ℕ → List ℕ → List ℕ → ℕ → Judgement → Type 0
-Left old mid end answer (refused n line field) = (answer ≡ n) × (mid ≡ old) × (end ≡ resultBytes n line 0 field)
-Left old mid end answer (merged b m) = (answer ≡ 0) × (mid ≡ spelledTrace b m ++ drop (length (spelledTrace b m)) old) × (end ≡ resultBytes 0 0 (length (spelledTrace b m)) 0)
+Left old mid end answer (refused n line field) = (answer ≡ n) × (mid ≡ old) × (end ≡ result_bytes n line 0 field)
+Left old mid end answer (merged b m) = (answer ≡ 0) × (mid ≡ spelled_trace b m ++ drop (length (spelled_trace b m)) old) × (end ≡ result_bytes 0 0 (length (spelled_trace b m)) 0)
 
-module _ {levels trace old mid result end : List ℕ} {answer : ℕ} (enough : mergeRoom ≤ length old) (whole : length result ≡ resultLength)
-    (m : Merges levels trace (outputsOf old result) (wroteAs answer (outputsOf mid end))) where
-  there : (a n c f : ℕ) → resultAfter a n c f result ≡ resultBytes a n c f
-  unfolding resultAfter
+module _ {levels trace old mid result end : List ℕ} {answer : ℕ} (enough : merge_room ≤ length old) (whole : length result ≡ result_length)
+    (m : Merges levels trace (outputs_of old result) (wrote_as answer (outputs_of mid end))) where
+  there : (a n c f : ℕ) → result_after a n c f result ≡ result_bytes a n c f
+  unfolding result_after
   there a n c f = simp (eq-eqb _ _ whole)
 
-  pub left : (j : Judgement) → Fits j → wroteAs answer (outputsOf mid end) ≡ mergeLeft j (outputsOf old result) → Left old mid end answer j
-  unfolding mergeLeft unwritten written
+  pub left : (j : Judgement) → Fits j → wrote_as answer (outputs_of mid end) ≡ merge_left j (outputs_of old result) → Left old mid end answer j
+  unfolding merge_left unwritten written
   left (refused n line field) s e = (ap (λ z. z.answer) e, ap (λ z. z.outputs.output) e, ap (λ z. z.outputs.result) e ∙ there n line 0 field)
   left (merged b rs) s e =
-      let k = simp (le-ltb (length old) (length (spelledTrace b rs)) (omega arith)) at e in
-      (ap (λ z. z.answer) k, ap (λ z. z.outputs.output) k, ap (λ z. z.outputs.result) k ∙ there 0 0 (length (spelledTrace b rs)) 0)
+      let k = simp (le-ltb (length old) (length (spelled_trace b rs)) (omega arith)) at e in
+      (ap (λ z. z.answer) k, ap (λ z. z.outputs.output) k, ap (λ z. z.outputs.result) k ∙ there 0 0 (length (spelled_trace b rs)) 0)
 
   -- ---- of whatever judgement there is
   some : {A : Type 0} → ((j : Judgement) → Judges levels trace j → Fits j → Left old mid end answer j → A) → A
   some go =
-      let t = eq-eqb (length result) resultLength whole in
+      let t = eq-eqb (length result) result_length whole in
       let z = m.some t in
       go z.0 z.1 (fits z.0 z.1) (left z.0 (fits z.0 z.1) (m.judged t z.0 z.1))
 
-  pub merge-accepted : {c : ℕ} → answer ≡ 0 → c ≡ count_of end → PrintsMerge levels trace old mid (record { accepted = true; len = c })
-  merge-accepted {c} z e = record { written = λ _. some by; short = λ l. absurd (omega arith) }
+  pub merge_accepted : {c : ℕ} → answer ≡ 0 → c ≡ count_of end → PrintsMerge levels trace old mid (record { accepted = true; len = c })
+  merge_accepted {c} z e = record { written = λ _. some by; short = λ l. absurd (omega arith) }
     where
-      by : (j : Judgement) → Judges levels trace j → Fits j → Left old mid end answer j → (k : Judgement) × Judges levels trace k × (true ≡ isMerged k) × Written (printedFor k) old mid c
+      by : (j : Judgement) → Judges levels trace j → Fits j → Left old mid end answer j → (k : Judgement) × Judges levels trace k × (true ≡ is_merged k) × Written (printed_for k) old mid c
       by (refused n line field) q s l = absurd (omega (arith, s.some, l.0))
       by (merged b rs) q s l =
-          (merged b rs, q, refl, record { number = e ∙ count-told end (result-whole 0 0 (length (spelledTrace b rs)) 0 l.2) ∙ count-number s l.2; content = l.1 })
+          (merged b rs, q, refl, record { number = e ∙ count_told end (result_whole 0 0 (length (spelled_trace b rs)) 0 l.2) ∙ count_number s l.2; content = l.1 })
 
-  module _ (refuses : answer ≡ 0 → ⊥) {s : Spelling} (put : s ≡ put_all noBytes (refusalOf end)) where
+  module _ (refuses : answer ≡ 0 → ⊥) {s : Spelling} (put : s ≡ put_all no_bytes (refusal_of end)) where
     -- the line of the refusal was put together, and the output is as it was
     record Line : Type 0 where
       number : ℕ
@@ -138,28 +138,28 @@ module _ {levels trace old mid result end : List ℕ} {answer : ℕ} (enough : m
       field : ℕ
       is : Judges levels trace (refused number line field)
       stays : mid ≡ old
-      holds : Holds s (refusedLine number line field)
+      holds : Holds s (refused_line number line field)
       short : s.len ≤ room
 
-    the-line : Line
-    the-line = some by
+    the_line : Line
+    the_line = some by
       where
         by : (j : Judgement) → Judges levels trace j → Fits j → Left old mid end answer j → Line
         by (refused n line field) q f l =
-            let told : refusalOf end ≡ refusedLine n line field = refusal-told end (result-whole n line 0 field l.2) ∙ refusal-numbers f l.2 in
-            let h = holds (refusedLine n line field) (put ∙ ap (put_all noBytes) told) (line-length f) in
-            record { number = n; line = line; field = field; is = q; stays = l.1; holds = h; short = omega (arith, h.len, line-length f) }
+            let told : refusal_of end ≡ refused_line n line field = refusal_told end (result_whole n line 0 field l.2) ∙ refusal_numbers f l.2 in
+            let h = holds (refused_line n line field) (put ∙ ap (put_all no_bytes) told) (line_length_lem f) in
+            record { number = n; line = line; field = field; is = q; stays = l.1; holds = h; short = omega (arith, h.len, line_length_lem f) }
         by (merged b rs) q f l = absurd (refuses l.0)
 
-    pub line-whole : s.len ≤ length s.bytes
-    line-whole = omega (arith, the-line.short, the-line.holds.whole)
+    pub line_whole : s.len ≤ length s.bytes
+    line_whole = omega (arith, the_line.short, the_line.holds.whole)
 
-    pub line-room : s.len ≤ length mid
-    line-room = omega (arith, the-line.short, ap length the-line.stays)
+    pub line_room : s.len ≤ length mid
+    line_room = omega (arith, the_line.short, ap length the_line.stays)
 
-    pub merge-refused : {part : List ℕ} → part ≡ take s.len s.bytes → PrintsMerge levels trace old (part ++ drop s.len mid) (record { accepted = false; len = s.len })
-    merge-refused {part} e =
-        let k = the-line in
+    pub merge_refused : {part : List ℕ} → part ≡ take s.len s.bytes → PrintsMerge levels trace old (part ++ drop s.len mid) (record { accepted = false; len = s.len })
+    merge_refused {part} e =
+        let k = the_line in
         let h = k.holds in
         record {
           written = λ _. (refused k.number k.line k.field, k.is, refl, record { number = h.len; content = λ i. (e ∙ h.bytes) i ++ drop (h.len i) (k.stays i) });
@@ -167,5 +167,5 @@ module _ {levels trace old mid result end : List ℕ} {answer : ℕ} (enough : m
         }
 
 -- no room
-pub merge-short : {levels trace old : List ℕ} → length old < mergeRoom → PrintsMerge levels trace old old (record { accepted = false; len = 0 })
-merge-short h = record { written = λ l. absurd (omega arith); short = λ l. (refl, refl, refl) }
+pub merge_short : {levels trace old : List ℕ} → length old < merge_room → PrintsMerge levels trace old old (record { accepted = false; len = 0 })
+merge_short h = record { written = λ l. absurd (omega arith); short = λ l. (refl, refl, refl) }

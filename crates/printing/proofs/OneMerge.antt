@@ -6,26 +6,26 @@ use mathlib.Core.Logic.{⊎_elim}
 use mathlib.Core.List.{List, ◌++◌}
 use lib.ListN.{length, drop, length-append}
 use borrow.Author.Tests.{eq-eqb}
-use Rattle.law.specs.Choice.{lt-or-le}
-use Rattle.record.specs.Lengths.{resultLength}
+use Rattle.law.specs.Choice.{lt_or_le}
+use Rattle.record.specs.Lengths.{result_length}
 use Rattle.capture.specs.Merge.{Judgement, refused, merged}
-use Rattle.capture.proofs.OneJudgement.{one-judgement}
-use Rattle.text.specs.Texts.{spelledTrace}
+use Rattle.capture.proofs.OneJudgement.{one_judgement}
+use Rattle.text.specs.Texts.{spelled_trace}
 use Rattle.printing.specs.declared.merge.ToPrint.{ToPrint}
 use Rattle.printing.specs.Printed.{Written}
-use Rattle.printing.specs.MergePrinted.{printedFor, isMerged, mergeRoom, PrintsMerge, OneMergeOutcome, MergeTold, MergeJoined}
-use Rattle.printing.proofs.MergeLaws.{Fits, fits, Left, left, refusal-numbers, count-number}
+use Rattle.printing.specs.MergePrinted.{printed_for, is_merged, merge_room, PrintsMerge, OneMergeOutcome, MergeTold, MergeJoined}
+use Rattle.printing.proofs.MergeLaws.{Fits, fits, Left, left, refusal_numbers, count_number}
 
 module _ {levels trace old new : List ℕ} {r : ToPrint} (h : PrintsMerge levels trace old new r) where
   -- what is printed never reaches beyond the output
-  pub merge-within : r.len ≤ length new
-  merge-within =
+  pub merge_within : r.len ≤ length new
+  merge_within =
       ⊎_elim (λ l. omega (arith, (h.short l).1))
-      (λ l. let z = h.written l in let p = printedFor z.0 in omega (arith, z.3.number, ap length z.3.content, length-append p (drop (length p) old)))
-      (lt-or-le (length old) mergeRoom)
+      (λ l. let z = h.written l in let p = printed_for z.0 in omega (arith, z.3.number, ap length z.3.content, length-append p (drop (length p) old)))
+      (lt_or_le (length old) merge_room)
 
-  one-of : {new' : List ℕ} {r' : ToPrint} → PrintsMerge levels trace old new' r' → (r ≡ r') × (new ≡ new')
-  one-of {new'} {r'} k =
+  one_of_lem : {new' : List ℕ} {r' : ToPrint} → PrintsMerge levels trace old new' r' → (r ≡ r') × (new ≡ new')
+  one_of_lem {new'} {r'} k =
       ⊎_elim
       (λ l.
       let a = h.short l in
@@ -34,31 +34,31 @@ module _ {levels trace old new : List ℕ} {r : ToPrint} (h : PrintsMerge levels
       (λ l.
       let a = h.written l in
       let b = k.written l in
-      let e = one-judgement a.1 b.1 in
-      let is = ap printedFor e in (
+      let e = one_judgement a.1 b.1 in
+      let is = ap printed_for e in (
         λ i. record {
-          accepted = (a.2 ∙ ap isMerged e ∙ sym b.2) i;
+          accepted = (a.2 ∙ ap is_merged e ∙ sym b.2) i;
           len = (a.3.number ∙ ap length is ∙ sym b.3.number) i;
         },
         a.3.content ∙ ap (λ (w : List ℕ). w ++ drop (length w) old) is ∙ sym b.3.content,
       ))
-      (lt-or-le (length old) mergeRoom)
+      (lt_or_le (length old) merge_room)
 
-pub one-merge-outcome : OneMergeOutcome
-one-merge-outcome levels trace old new new' r r' h k = one-of h k
+pub one_merge_outcome : OneMergeOutcome
+one_merge_outcome levels trace old new new' r r' h k = one_of_lem h k
 
-pub merge-joined : MergeJoined
-merge-joined levels trace x e m whole enough old new r h room =
+pub merge_joined : MergeJoined
+merge_joined levels trace x e m whole enough old new r h room =
     let z = h.written room in
     let f = fits z.0 z.1 in
-    by z.0 f (left enough whole m z.0 f (m.judged (eq-eqb (length x.result) resultLength whole) z.0 z.1)) z.2 z.3
+    by z.0 f (left enough whole m z.0 f (m.judged (eq-eqb (length x.result) result_length whole) z.0 z.1)) z.2 z.3
   where
-    by : (j : Judgement) → Fits j → Left x.output e.outputs.output e.outputs.result e.answer j → r.accepted ≡ isMerged j → Written (printedFor j) old new r.len → MergeTold x.output e old new r
+    by : (j : Judgement) → Fits j → Left x.output e.outputs.output e.outputs.result e.answer j → r.accepted ≡ is_merged j → Written (printed_for j) old new r.len → MergeTold x.output e old new r
     by (refused n line field) s l a w = record {
       accepted = λ t. absurd (omega (arith, s.some, l.0));
-      refused = λ t. (a, subst (λ (u : List ℕ). Written u old new r.len) (sym (refusal-numbers s l.2)) w);
+      refused = λ t. (a, subst (λ (u : List ℕ). Written u old new r.len) (sym (refusal_numbers s l.2)) w);
     }
     by (merged b rs) s l a w = record {
-      accepted = λ t. (a, spelledTrace b rs, record { number = count-number s l.2; content = l.1 }, w);
+      accepted = λ t. (a, spelled_trace b rs, record { number = count_number s l.2; content = l.1 }, w);
       refused = λ t. absurd (t l.0);
     }

@@ -2,10 +2,10 @@
 // the call left is listed.
 ghost use Rattle.std.specs.Prelude.{◌≡◌, ◌≤◌, length, take, replicate};
 ghost use Rattle.image.specs.Image.{image_of};
-ghost use Rattle.record.specs.Lengths.{repliesLength, resultLength};
-ghost use Rattle.times.specs.Times.{timesLength};
-ghost use Rattle.printing.specs.Printed.{dumpsOf, Prints, PrintsPages};
-ghost use Rattle.printing.specs.Lending.{lentFor, LeftFor};
+ghost use Rattle.record.specs.Lengths.{replies_length, result_length};
+ghost use Rattle.times.specs.Times.{times_length};
+ghost use Rattle.printing.specs.Printed.{dumps_of, Prints, PrintsPages};
+ghost use Rattle.printing.specs.Lending.{lent_for, LeftFor};
 
 mod merge;
 
@@ -36,7 +36,7 @@ fn make_sure(mask: &mut [u8])
 // Puts a dump into the image that stands for it, and makes it sure; so many bytes of the image are to be lent. Without a dump the image stays as it is, and of a
 // dump of another length nothing is lent: the call refuses that.
 fn take_dump(dump: &[u8], there: bool, image: &mut [u8], mask: &mut [u8]) -> usize
-    ensures { (result ≤ length image.new) × (image_of (take result image.new) mask.new ≡ lentFor there dump.now (image_of image.old mask.old)) }
+    ensures { (result ≤ length image.new) × (image_of (take result image.new) mask.new ≡ lent_for there dump.now (image_of image.old mask.old)) }
 {
     if !there {
         return image.len();
@@ -60,8 +60,8 @@ fn replay_dumps(
     replies: &mut [u8],
     res: &mut [u8],
 )
-    requires { (length times.old ≡ timesLength) × (length replies.old ≡ repliesLength) × (length res.old ≡ resultLength) }
-    ensures { LeftFor text.now (dumpsOf flash_there flash.now eeprom_there eeprom.now) times.new replies.new res.new }
+    requires { (length times.old ≡ times_length) × (length replies.old ≡ replies_length) × (length res.old ≡ result_length) }
+    ensures { LeftFor text.now (dumps_of flash_there flash.now eeprom_there eeprom.now) times.new replies.new res.new }
 {
     // Without a dump all is 00 with mask ff.
     let mut flash_image = [0u8; image::FLASH_KEPT];
@@ -91,7 +91,7 @@ pub fn print_replay(
     eeprom_there: bool,
     out: &mut [u8],
 ) -> usize
-    ensures { Prints text.now (dumpsOf flash_there flash.now eeprom_there eeprom.now) out.old out.new result }
+    ensures { Prints text.now (dumps_of flash_there flash.now eeprom_there eeprom.now) out.old out.new result }
 {
     let mut times = [0u8; times::TIMES];
     let mut replies = [0u8; record::REPLIES];
@@ -118,7 +118,7 @@ pub fn print_pages(
     eeprom_there: bool,
     out: &mut [u8],
 ) -> usize
-    ensures { PrintsPages text.now (dumpsOf flash_there flash.now eeprom_there eeprom.now) out.old out.new result }
+    ensures { PrintsPages text.now (dumps_of flash_there flash.now eeprom_there eeprom.now) out.old out.new result }
 {
     let mut times = [0u8; times::TIMES];
     let mut replies = [0u8; record::REPLIES];

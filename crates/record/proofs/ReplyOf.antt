@@ -2,16 +2,16 @@
 use mathlib.Core.Path.{◌≡◌, refl}
 use Rattle.record.specs.declared.Reply.{Reply}
 use Rattle.record.specs.declared.Reply.TheVariants.{NotPlayed, Silent, Byte, Ack, NoAck, Starts, Ends, NoCycle}
-use Rattle.record.specs.Replies.{replyKind, replyValue, replyMask}
-use Rattle.record.specs.ReplyOf.{replyOf}
+use Rattle.record.specs.Replies.{reply_kind, reply_value, reply_mask}
+use Rattle.record.specs.ReplyOf.{reply_of}
 
 -- so a reply can be got back from its bytes
-pub reply-back : (y : Reply) → replyOf (replyKind y) (replyValue y) (replyMask y) ≡ y
-reply-back NotPlayed = refl
-reply-back Silent = refl
-reply-back (Byte v m) = refl
-reply-back Ack = refl
-reply-back NoAck = refl
-reply-back Starts = refl
-reply-back Ends = refl
-reply-back NoCycle = refl
+pub reply_back : (y : Reply) → reply_of (reply_kind y) (reply_value y) (reply_mask y) ≡ y
+reply_back NotPlayed = refl
+reply_back Silent = refl
+reply_back (Byte v m) = refl
+reply_back Ack = refl
+reply_back NoAck = refl
+reply_back Starts = refl
+reply_back Ends = refl
+reply_back NoCycle = refl

@@ -7,26 +7,26 @@ use Rattle.record.specs.declared.PlanAnswer.TheVariants.{Planned, Unfit, Locked,
 use Rattle.record.specs.declared.LevelsAnswer.{LevelsAnswer}
 use Rattle.record.specs.declared.LevelsAnswer.TheVariants.{BadLevel, Together, TooShort}
 
-abbrev pub answerNumber : Answer → ℕ
-answerNumber Settled = 0
-answerNumber BadBuffers = 1
-answerNumber TooLong = 2
-answerNumber BadLine = 3
-answerNumber BackInTime = 4
-answerNumber Impossible = 5
-answerNumber Crowded = 6
-answerNumber OrdersDiffer = 7
-answerNumber StatusLost = 8
+abbrev pub answer_number : Answer → ℕ
+answer_number Settled = 0
+answer_number BadBuffers = 1
+answer_number TooLong = 2
+answer_number BadLine = 3
+answer_number BackInTime = 4
+answer_number Impossible = 5
+answer_number Crowded = 6
+answer_number OrdersDiffer = 7
+answer_number StatusLost = 8
 
 -- a plan; 'a wrong length or a status with other bits than 7, 3 and 2'; 'a byte that differs stands in a locked sector'; 'the lent list is too short for the plan'
-abbrev pub planAnswerNumber : PlanAnswer → ℕ
-planAnswerNumber Planned = 0
-planAnswerNumber Unfit = 14
-planAnswerNumber Locked = 15
-planAnswerNumber NoRoom = 16
+abbrev pub plan_answer_number : PlanAnswer → ℕ
+plan_answer_number Planned = 0
+plan_answer_number Unfit = 14
+plan_answer_number Locked = 15
+plan_answer_number NoRoom = 16
 
 -- beside 0 to 5: 'a level line of wrong form, a wrong first line, a stamp below the one before or equal to that of a record taken from the logger'; 'SCK changes together with CS, SI or HOLD, or SCL with SDA'; 'then 10'
-abbrev pub levelsAnswerNumber : LevelsAnswer → ℕ
-levelsAnswerNumber BadLevel = 12
-levelsAnswerNumber Together = 13
-levelsAnswerNumber TooShort = 10
+abbrev pub levels_answer_number : LevelsAnswer → ℕ
+levels_answer_number BadLevel = 12
+levels_answer_number Together = 13
+levels_answer_number TooShort = 10

@@ -6,11 +6,11 @@ use Rattle.record.specs.declared.FlashEvent.{FlashEvent}
 use Rattle.record.specs.declared.EepromEvent.{EepromEvent}
 use Rattle.record.specs.declared.LineEvent.{LineEvent}
 
-abbrev pub onF : ℕ → FlashEvent → Record
-onF stamp e = record { stamp = stamp; event = event.Flash e }
+abbrev pub on_f : ℕ → FlashEvent → Record
+on_f stamp e = record { stamp = stamp; event = event.Flash e }
 
 abbrev pub on_e : ℕ → EepromEvent → Record
 on_e stamp e = record { stamp = stamp; event = event.Eeprom e }
 
-abbrev pub onL : ℕ → LineEvent → Record
-onL stamp e = record { stamp = stamp; event = event.Line e }
+abbrev pub on_l : ℕ → LineEvent → Record
+on_l stamp e = record { stamp = stamp; event = event.Line e }

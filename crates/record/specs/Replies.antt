@@ -6,42 +6,42 @@ use Rattle.record.specs.declared.Match.{Match}
 use Rattle.record.specs.declared.Match.TheVariants.{Nothing, Agrees, Disagrees}
 
 -- 0 not played, 1 silent, 2 byte, 3 ack, 4 no ack, 5 starts, 6 ends, 7 `end` with no cycle
-abbrev pub replyKind : Reply → ℕ
-replyKind NotPlayed = 0
-replyKind Silent = 1
-replyKind (Byte v m) = 2
-replyKind Ack = 3
-replyKind NoAck = 4
-replyKind Starts = 5
-replyKind Ends = 6
-replyKind NoCycle = 7
+abbrev pub reply_kind : Reply → ℕ
+reply_kind NotPlayed = 0
+reply_kind Silent = 1
+reply_kind (Byte v m) = 2
+reply_kind Ack = 3
+reply_kind NoAck = 4
+reply_kind Starts = 5
+reply_kind Ends = 6
+reply_kind NoCycle = 7
 
 -- value and mask are 0 for other kinds than 2
-abbrev pub replyValue : Reply → ℕ
-replyValue NotPlayed = 0
-replyValue Silent = 0
-replyValue (Byte v m) = v
-replyValue Ack = 0
-replyValue NoAck = 0
-replyValue Starts = 0
-replyValue Ends = 0
-replyValue NoCycle = 0
+abbrev pub reply_value : Reply → ℕ
+reply_value NotPlayed = 0
+reply_value Silent = 0
+reply_value (Byte v m) = v
+reply_value Ack = 0
+reply_value NoAck = 0
+reply_value Starts = 0
+reply_value Ends = 0
+reply_value NoCycle = 0
 
-abbrev pub replyMask : Reply → ℕ
-replyMask NotPlayed = 0
-replyMask Silent = 0
-replyMask (Byte v m) = m
-replyMask Ack = 0
-replyMask NoAck = 0
-replyMask Starts = 0
-replyMask Ends = 0
-replyMask NoCycle = 0
+abbrev pub reply_mask : Reply → ℕ
+reply_mask NotPlayed = 0
+reply_mask Silent = 0
+reply_mask (Byte v m) = m
+reply_mask Ack = 0
+reply_mask NoAck = 0
+reply_mask Starts = 0
+reply_mask Ends = 0
+reply_mask NoCycle = 0
 
 -- 0 nothing to compare, 1 agrees, 2 disagrees
-abbrev pub matchNumber : Match → ℕ
-matchNumber Nothing = 0
-matchNumber Agrees = 1
-matchNumber Disagrees = 2
+abbrev pub match_number : Match → ℕ
+match_number Nothing = 0
+match_number Agrees = 1
+match_number Disagrees = 2
 
-abbrev pub replyBytes : Reply → Match → List ℕ
-replyBytes r m = replyKind r ∷ replyValue r ∷ replyMask r ∷ matchNumber m ∷ []
+abbrev pub reply_bytes : Reply → Match → List ℕ
+reply_bytes r m = reply_kind r ∷ reply_value r ∷ reply_mask r ∷ match_number m ∷ []

@@ -5,8 +5,8 @@ use Rattle.record.specs.declared.Reply.{Reply}
 use Rattle.record.specs.declared.Reply.TheVariants.{NotPlayed, Silent, Byte, Ack, NoAck, Starts, Ends, NoCycle}
 
 -- the reply of which these are kind, value and mask; a kind above 7 is none, so not played
-abbrev pub replyOf : ℕ → ℕ → ℕ → Reply
-replyOf kind value mask =
+abbrev pub reply_of : ℕ → ℕ → ℕ → Reply
+reply_of kind value mask =
     pick (eqb kind 1) Silent
     (pick (eqb kind 2) (Byte value mask)
     (pick (eqb kind 3) Ack

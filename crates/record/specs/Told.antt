@@ -4,15 +4,15 @@ use Rattle.tied.specs.Control.{Kind, starts, ends, fetches, plain}
 use Rattle.record.specs.declared.Skeleton.{Skeleton}
 use Rattle.record.specs.declared.Skeleton.TheVariants.{Silent, Given, Fetch, Ack, NoAck, Starts, Ends, NoCycle}
 
-abbrev pub skeletonKind : Skeleton → Kind
-skeletonKind Silent = plain
-skeletonKind (Given b) = plain
-skeletonKind (Fetch p) = fetches
-skeletonKind Ack = plain
-skeletonKind NoAck = plain
-skeletonKind Starts = starts
-skeletonKind Ends = ends
-skeletonKind NoCycle = plain
+abbrev pub skeleton_kind : Skeleton → Kind
+skeleton_kind Silent = plain
+skeleton_kind (Given b) = plain
+skeleton_kind (Fetch p) = fetches
+skeleton_kind Ack = plain
+skeleton_kind NoAck = plain
+skeleton_kind Starts = starts
+skeleton_kind Ends = ends
+skeleton_kind NoCycle = plain
 
 -- both a given and a fetched byte are delivered as a byte: what was told before says which, and from which place
 unfoldable pub Telling : Skeleton → Skeleton → Type 0

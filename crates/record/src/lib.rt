@@ -1,11 +1,11 @@
 // The vocabulary of document 01: events, records, the board, the two lines, replies and answers, with the paper's number for each case.
 ghost use Rattle.std.specs.Prelude.{◌≡◌};
 ghost use Rattle.law.specs.Deciding.{Decides};
-ghost use Rattle.record.specs.Answers.{answerNumber, planAnswerNumber, levelsAnswerNumber};
-ghost use Rattle.record.specs.Replies.{replyKind, replyValue, replyMask, matchNumber};
+ghost use Rattle.record.specs.Answers.{answer_number, plan_answer_number, levels_answer_number};
+ghost use Rattle.record.specs.Replies.{reply_kind, reply_value, reply_mask, match_number};
 ghost use Rattle.record.specs.Status.{StatusOk};
-ghost use Rattle.record.specs.Skeletons.{skeletonNumbers};
-ghost use Rattle.record.specs.LineRules.{linesAfter, linesAtStart, goesOff, lockComesOn};
+ghost use Rattle.record.specs.Skeletons.{skeleton_numbers};
+ghost use Rattle.record.specs.LineRules.{lines_after, lines_at_start, goes_off, lock_comes_on};
 
 use law::Numbers;
 
@@ -122,7 +122,7 @@ pub enum Match {
 
 // At the start the supply is on and the lock off.
 pub fn lines_at_start() -> Lines
-    ensures { result ≡ linesAtStart }
+    ensures { result ≡ lines_at_start }
 {
     Lines {
         supply: true,
@@ -132,7 +132,7 @@ pub fn lines_at_start() -> Lines
 
 // The lines after a line record.
 pub fn lines_after(lines: Lines, e: LineEvent) -> Lines
-    ensures { result ≡ linesAfter lines e }
+    ensures { result ≡ lines_after lines e }
 {
     match e {
         LineEvent::SupplyOn => Lines {
@@ -156,7 +156,7 @@ pub fn lines_after(lines: Lines, e: LineEvent) -> Lines
 
 // Whether the supply goes off: where it is off already, nothing does.
 pub fn goes_off(lines: Lines, e: LineEvent) -> bool
-    ensures { result ≡ goesOff lines e }
+    ensures { result ≡ goes_off lines e }
 {
     match e {
         LineEvent::SupplyOn => false,
@@ -168,7 +168,7 @@ pub fn goes_off(lines: Lines, e: LineEvent) -> bool
 
 // Whether the lock comes on: where it is on already, nothing does.
 pub fn lock_comes_on(lines: Lines, e: LineEvent) -> bool
-    ensures { result ≡ lockComesOn lines e }
+    ensures { result ≡ lock_comes_on lines e }
 {
     match e {
         LineEvent::SupplyOn => false,
@@ -203,7 +203,7 @@ pub enum Answer {
 
 // The paper's number of an answer.
 pub fn answer_number(a: Answer) -> u32
-    ensures { result ≡ answerNumber a }
+    ensures { result ≡ answer_number a }
 {
     match a {
         Answer::Settled => 0,
@@ -229,7 +229,7 @@ pub enum PlanAnswer {
 
 // The paper's number of such an answer.
 pub fn plan_answer_number(a: PlanAnswer) -> u32
-    ensures { result ≡ planAnswerNumber a }
+    ensures { result ≡ plan_answer_number a }
 {
     match a {
         PlanAnswer::Planned => 0,
@@ -249,7 +249,7 @@ pub enum LevelsAnswer {
 
 // The paper's number of such an answer.
 pub fn levels_answer_number(a: LevelsAnswer) -> u32
-    ensures { result ≡ levelsAnswerNumber a }
+    ensures { result ≡ levels_answer_number a }
 {
     match a {
         LevelsAnswer::BadLevel => 12,
@@ -260,7 +260,7 @@ pub fn levels_answer_number(a: LevelsAnswer) -> u32
 
 // The first of a reply's four bytes.
 pub fn reply_kind(r: Reply) -> u8
-    ensures { result ≡ replyKind r }
+    ensures { result ≡ reply_kind r }
 {
     match r {
         Reply::NotPlayed => 0,
@@ -276,7 +276,7 @@ pub fn reply_kind(r: Reply) -> u8
 
 // The second: 0 for other kinds than 2.
 pub fn reply_value(r: Reply) -> u8
-    ensures { result ≡ replyValue r }
+    ensures { result ≡ reply_value r }
 {
     match r {
         Reply::NotPlayed => 0,
@@ -292,7 +292,7 @@ pub fn reply_value(r: Reply) -> u8
 
 // The third: 0 for other kinds than 2.
 pub fn reply_mask(r: Reply) -> u8
-    ensures { result ≡ replyMask r }
+    ensures { result ≡ reply_mask r }
 {
     match r {
         Reply::NotPlayed => 0,
@@ -308,7 +308,7 @@ pub fn reply_mask(r: Reply) -> u8
 
 // The fourth.
 pub fn match_number(m: Match) -> u8
-    ensures { result ≡ matchNumber m }
+    ensures { result ≡ match_number m }
 {
     match m {
         Match::Nothing => 0,
@@ -318,7 +318,7 @@ pub fn match_number(m: Match) -> u8
 }
 
 fn skeleton_numbers(s: Skeleton) -> Numbers
-    ensures { result ≡ skeletonNumbers s }
+    ensures { result ≡ skeleton_numbers s }
 {
     match s {
         Skeleton::Silent => law::numbers_of(0, 0, 0, 0, 0),

@@ -16,7 +16,7 @@ use Rattle.flash.specs.Cycle.{blank}
 use Rattle.flash.specs.Step.{step_of}
 use Rattle.image.specs.Image.{Image}
 use Rattle.machine.specs.declared.effects.Stroke.TheVariants.{Whole}
-use Rattle.machine.specs.Effects.{strokeOf, flashAfter}
+use Rattle.machine.specs.Effects.{stroke_of, flash_after}
 
 pub record Half : Type 0 where
   pub chip : Flash
@@ -29,7 +29,7 @@ module _ (lines : Lines) (watched : ℕ) where
   -- one record of channel F, by the replay's rules
   abbrev pub moved : Half → FlashEvent → Half
   moved h e =
-      half (step_of h.chip e lines watched).chip (flashAfter (strokeOf (step_of h.chip e lines watched).reply) watched h.chip h.image)
+      half (step_of h.chip e lines watched).chip (flash_after (stroke_of (step_of h.chip e lines watched).reply) watched h.chip h.image)
 
   unfoldable pub played : List FlashEvent → Half → Half
   played [] h = h
@@ -45,17 +45,17 @@ abbrev pub powered : Bool → Lines
 powered lock = record { supply = true; lock = lock }
 
 -- idle, with a known status; and in a cycle
-abbrev pub inCycle : FlashCycle → List ℕ → ℕ → Flash
-inCycle c page status = record { frame = Idle; cycle = c; status = Known status; page = page }
+abbrev pub in_cycle : FlashCycle → List ℕ → ℕ → Flash
+in_cycle c page status = record { frame = Idle; cycle = c; status = Known status; page = page }
 
 abbrev pub idle : ℕ → Flash
-idle status = inCycle cycle.None blank status
+idle status = in_cycle cycle.None blank status
 
 -- in a command's frame, with so many bytes in
-abbrev pub inCommand : Op → ℕ → ℕ → LockFact → ℕ → List ℕ → Flash
-inCommand o count place fact status page =
+abbrev pub in_command : Op → ℕ → ℕ → LockFact → ℕ → List ℕ → Flash
+in_command o count place fact status page =
     record { frame = Command o (record { count = count; place = place }) fact; cycle = cycle.None; status = Known status; page = page }
 
 -- what a whole cycle makes of the image
 abbrev pub whole_of : ℕ → FlashCycle → List ℕ → ℕ → Image → Image
-whole_of watched c page status i = flashAfter Whole watched (inCycle c page status) i
+whole_of watched c page status i = flash_after Whole watched (in_cycle c page status) i

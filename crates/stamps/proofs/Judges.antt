@@ -5,53 +5,53 @@ use Prim.Native.Nat.{ℕ}
 use Rattle.record.specs.declared.Record.{Record}
 use Rattle.record.specs.declared.Board.{Board}
 use Rattle.field.specs.declared.Cursor.{Cursor}
-use Rattle.field.proofs.Reading.{got-none, got-one}
+use Rattle.field.proofs.Reading.{got_none, got_one}
 use Rattle.line.specs.declared.records.ReadRecord.{ReadRecord}
 use Rattle.line.specs.Records.{ReadsRecord}
-use Rattle.line.proofs.Apart.{tells-record}
+use Rattle.line.proofs.Apart.{tells_record}
 use Rattle.line.proofs.Theorems.{record_same}
 use Rattle.controls.specs.declared.Controls.{Controls}
 use Rattle.orders.specs.declared.Verdict.{Verdict}
 use Rattle.orders.specs.declared.Verdict.TheVariants.{Crowded}
 use Rattle.orders.specs.Verdicts.{Judged}
-use Rattle.orders.proofs.OneVerdict.{one-verdict}
+use Rattle.orders.proofs.OneVerdict.{one_verdict}
 use Rattle.stamps.specs.declared.Gathered.{Gathered}
 use Rattle.stamps.specs.declared.Judgement.{Judgement}
-use Rattle.stamps.specs.Gathering.{nothingGathered, gatheredAll, Shares, Gathers}
+use Rattle.stamps.specs.Gathering.{nothing_gathered, gathered_all, Shares, Gathers}
 use Rattle.stamps.specs.Judging.{judgement, JudgesAt}
 use Rattle.stamps.specs.Judging.JudgesAt.{nothing, found}
-use Rattle.stamps.proofs.Sharing.{one-shares}
+use Rattle.stamps.proofs.Sharing.{one_shares}
 
 module _ (text : List ℕ) (place : ℕ) (b : Board) (c : Controls) where
-  module _ (a : ReadRecord) (d : ReadsRecord text place a) (none : Gathered) (n : none ≡ nothingGathered place) where
-    pub judges-none : {k : ℕ} → a ≡ ReadRecord.Bad k → JudgesAt text place b c (record { verdict = Crowded; records = none.records; count = 0; next = place; stamp = 0 })
-    judges-none e =
+  module _ (a : ReadRecord) (d : ReadsRecord text place a) (none : Gathered) (n : none ≡ nothing_gathered place) where
+    pub judges_none : {k : ℕ} → a ≡ ReadRecord.Bad k → JudgesAt text place b c (record { verdict = Crowded; records = none.records; count = 0; next = place; stamp = 0 })
+    judges_none e =
         subst (λ (x : Gathered). JudgesAt text place b c (record { verdict = Crowded; records = x.records; count = 0; next = place; stamp = 0 })) (sym n)
-        (nothing (got-none tells-record d e))
+        (nothing (got_none tells_record d e))
 
     -- what was gathered from nothing begins with the record that was read
-    pub judges-some : (r : Record) (cur : Cursor) → a ≡ ReadRecord.Value r cur → (g : Gathered) → Gathers text r.stamp none g →
+    pub judges_some : (r : Record) (cur : Cursor) → a ≡ ReadRecord.Value r cur → (g : Gathered) → Gathers text r.stamp none g →
         (v : Verdict) → Judged b g.held c v → JudgesAt text place b c (judgement v r.stamp g)
     unfolding Shares
-    judges-some r cur e g u v j =
-        let q = u.gathered ∙ ap (λ (y : Gathered). gatheredAll y u.records) n in
+    judges_some r cur e g u v j =
+        let q = u.gathered ∙ ap (λ (y : Gathered). gathered_all y u.records) n in
         subst (λ (y : Gathered). JudgesAt text place b c (judgement v r.stamp y)) (sym q)
         (begun u.records (subst (λ (y : Gathered). Shares text r.stamp y.next u.records) n u.shares) (subst (λ (y : Gathered). Judged b y.held c v) q j))
       where
-        begun : (p : List Record) → Shares text r.stamp place p → Judged b (gatheredAll (nothingGathered place) p).held c v → JudgesAt text place b c (judgement v r.stamp (gatheredAll (nothingGathered place) p))
-        begun [] s h = let x = got-one tells-record d r cur.at e in absurd (s r x.ok x.stands refl)
+        begun : (p : List Record) → Shares text r.stamp place p → Judged b (gathered_all (nothing_gathered place) p).held c v → JudgesAt text place b c (judgement v r.stamp (gathered_all (nothing_gathered place) p))
+        begun [] s h = let x = got_one tells_record d r cur.at e in absurd (s r x.ok x.stands refl)
         begun (y ∷ p) s h =
-            subst (λ (t : ℕ). JudgesAt text place b c (judgement v t (gatheredAll (nothingGathered place) (y ∷ p)))) s.2
+            subst (λ (t : ℕ). JudgesAt text place b c (judgement v t (gathered_all (nothing_gathered place) (y ∷ p)))) s.2
             (found y p v (subst (λ (t : ℕ). Shares text t place (y ∷ p)) (sym s.2) s) h)
 
   -- any two answers that the promise of `judge_at` admits are equal
-  pub judge-determined : {j k : Judgement} → JudgesAt text place b c j → JudgesAt text place b c k → j ≡ k
+  pub judge_determined : {j k : Judgement} → JudgesAt text place b c j → JudgesAt text place b c k → j ≡ k
   unfolding Shares
-  judge-determined (nothing n) (nothing m) = refl
-  judge-determined (nothing n) (found r p v s h) = absurd (n r s.0 s.1)
-  judge-determined (found r p v s h) (nothing n) = absurd (n r s.0 s.1)
-  judge-determined (found r p v s h) (found x q w u k) =
+  judge_determined (nothing n) (nothing m) = refl
+  judge_determined (nothing n) (found r p v s h) = absurd (n r s.0 s.1)
+  judge_determined (found r p v s h) (nothing n) = absurd (n r s.0 s.1)
+  judge_determined (found r p v s h) (found x q w u k) =
       let e : r ≡ x = record_same text place r x s.0 u.0 s.1 u.1 in
-      let es : r ∷ p ≡ x ∷ q = one-shares text x.stamp place (r ∷ p) (x ∷ q) (subst (λ (z : Record). Shares text z.stamp place (r ∷ p)) e s) u in
-      let o : v ≡ w = one-verdict b (gatheredAll (nothingGathered place) (x ∷ q)).held c v w (subst (λ (l : List Record). Judged b (gatheredAll (nothingGathered place) l).held c v) es h) k in
-      λ i. judgement (o i) (e i).stamp (gatheredAll (nothingGathered place) (es i))
+      let es : r ∷ p ≡ x ∷ q = one_shares text x.stamp place (r ∷ p) (x ∷ q) (subst (λ (z : Record). Shares text z.stamp place (r ∷ p)) e s) u in
+      let o : v ≡ w = one_verdict b (gathered_all (nothing_gathered place) (x ∷ q)).held c v w (subst (λ (l : List Record). Judged b (gathered_all (nothing_gathered place) l).held c v) es h) k in
+      λ i. judgement (o i) (e i).stamp (gathered_all (nothing_gathered place) (es i))

@@ -11,29 +11,29 @@ use lib.Seq.{take_all, take-suc-set, take-append-le}
 use borrow.Author.Tests.{ltb-true, ltb-false}
 use Rattle.law.specs.Choice.{split}
 use Rattle.law.specs.Words.{pick, keep, filter}
-use Rattle.law.specs.Lists.{filter-append}
+use Rattle.law.specs.Lists.{filter_append}
 use Rattle.meaning.specs.Meaning.{Channel, F, E, L, same, most, of}
-use Rattle.meaning.specs.Channels.{mostInAll}
+use Rattle.meaning.specs.Channels.{most_in_all}
 use Rattle.record.specs.declared.Record.{Record}
 use Rattle.record.specs.declared.Board.{Board}
 use Rattle.orders.specs.declared.Held.{Held}
 use Rattle.orders.specs.Verdicts.{count_of, array_of}
-use Rattle.machine.specs.Machine.{onMachine, channelOf}
+use Rattle.machine.specs.Machine.{on_machine, channel_of}
 use Rattle.enough.specs.Enough.{HoldsMost, Holds}
 use Rattle.stamps.specs.declared.Gathered.{Gathered}
 use Rattle.line.specs.Records.{spelled}
-use Rattle.stamps.specs.Gathering.{keptArray, keptCount, arrayWith, countWith, heldBy, heldWith, gatheredWith, nothingGathered, gatheredAll}
+use Rattle.stamps.specs.Gathering.{kept_array, kept_count, array_with, count_with, held_by, held_with, gathered_with, nothing_gathered, gathered_all}
 
 -- the arrays have the lengths that they are declared with
 pub record Sized (g : Gathered) : Type 0 where
   pub held : (c : Channel) → length (array_of g.held c) ≡ most c
-  pub records : length g.records ≡ mostInAll
+  pub records : length g.records ≡ most_in_all
 
 -- the records p are gathered
 pub record Keeps (b : Board) (g : Gathered) (p : List Record) : Type 0 where
   pub sized : Sized g
   pub held : Holds b g.held p
-  pub written : HoldsMost mostInAll g.count g.records p
+  pub written : HoldsMost most_in_all g.count g.records p
 
 -- ---- one channel
 module _ (most count : ℕ) (array xs : List Record) (r : Record) (h : HoldsMost most count array xs) (long : length array ≡ most) where
@@ -60,79 +60,79 @@ module _ (most count : ℕ) (array xs : List Record) (r : Record) (h : HoldsMost
         holds = take_all (most + 1) array (omega arith) ∙ sym (take_all count array (omega arith)) ∙ h.holds ∙ sym (take-append-le most xs (r ∷ []) n);
       }
 
-  pub keep-most : HoldsMost most (keptCount most count) (keptArray most array count r) (xs ++ (r ∷ []))
-  keep-most =
+  pub keep_most : HoldsMost most (kept_count most count) (kept_array most array count r) (xs ++ (r ∷ []))
+  keep_most =
       split (ltb count most)
       (λ t. rw t (fits_in (ltb-true count most t)))
       (λ t. rw t (overflows (ltb-false count most t)))
 
-  pub keep-long : length (keptArray most array count r) ≡ most
-  keep-long = split (ltb count most) (λ t. rw t (length-set array count r ∙ long)) (λ t. rw t long)
+  pub keep_long : length (kept_array most array count r) ≡ most
+  keep_long = split (ltb count most) (λ t. rw t (length-set array count r ∙ long)) (λ t. rw t long)
 
 -- ---- each channel of the records
-count_by : (c d : Channel) (h : Held) (r : Record) → countWith c d h ≡ count_of (heldBy d h r) c
+count_by : (c d : Channel) (h : Held) (r : Record) → count_with c d h ≡ count_of (held_by d h r) c
 count_by F d h r = refl
 count_by E d h r = refl
 count_by L d h r = refl
 
-array-by : (c d : Channel) (h : Held) (r : Record) → arrayWith c d h r ≡ array_of (heldBy d h r) c
-array-by F d h r = refl
-array-by E d h r = refl
-array-by L d h r = refl
+array_by : (c d : Channel) (h : Held) (r : Record) → array_with c d h r ≡ array_of (held_by d h r) c
+array_by F d h r = refl
+array_by E d h r = refl
+array_by L d h r = refl
 
 module _ (b : Board) (p : List Record) (r : Record) (g : Gathered) (k : Keeps b g p) where
   -- what is held of the channel c, whether the record is of this channel or not
-  one-held : (c : Channel) (t : Bool) →
-      HoldsMost (most c) (pick t (keptCount (most c) (count_of g.held c)) (count_of g.held c)) (pick t (keptArray (most c) (array_of g.held c) (count_of g.held c) r) (array_of g.held c)) (of (onMachine b) c p ++ keep t r [])
+  one_held : (c : Channel) (t : Bool) →
+      HoldsMost (most c) (pick t (kept_count (most c) (count_of g.held c)) (count_of g.held c)) (pick t (kept_array (most c) (array_of g.held c) (count_of g.held c) r) (array_of g.held c)) (of (on_machine b) c p ++ keep t r [])
   unfolding keep
-  one-held c true = keep-most (most c) _ _ _ r (k.held c) (k.sized.held c)
-  one-held c false = subst (HoldsMost (most c) (count_of g.held c) (array_of g.held c)) (sym (append-nil _)) (k.held c)
+  one_held c true = keep_most (most c) _ _ _ r (k.held c) (k.sized.held c)
+  one_held c false = subst (HoldsMost (most c) (count_of g.held c) (array_of g.held c)) (sym (append-nil _)) (k.held c)
 
-  held_by : Holds b (heldWith g.held r) (p ++ (r ∷ []))
+  held_by_lem : Holds b (held_with g.held r) (p ++ (r ∷ []))
   unfolding filter
-  held_by c =
-      subst (HoldsMost (most c) _ _) (sym (filter-append _ p (r ∷ [])))
-      (subst₂ (λ (n : ℕ) (xs : List Record). HoldsMost (most c) n xs (of (onMachine b) c p ++ keep (same c (channelOf r.event)) r [])) (count_by c (channelOf r.event) g.held r) (array-by c (channelOf r.event) g.held r)
-      (one-held c (same c (channelOf r.event))))
+  held_by_lem c =
+      subst (HoldsMost (most c) _ _) (sym (filter_append _ p (r ∷ [])))
+      (subst₂ (λ (n : ℕ) (xs : List Record). HoldsMost (most c) n xs (of (on_machine b) c p ++ keep (same c (channel_of r.event)) r [])) (count_by c (channel_of r.event) g.held r) (array_by c (channel_of r.event) g.held r)
+      (one_held c (same c (channel_of r.event))))
 
-  one-long : (c : Channel) (t : Bool) → length (pick t (keptArray (most c) (array_of g.held c) (count_of g.held c) r) (array_of g.held c)) ≡ most c
-  one-long c true = keep-long (most c) (count_of g.held c) (array_of g.held c) _ r (k.held c) (k.sized.held c)
-  one-long c false = k.sized.held c
+  one_long : (c : Channel) (t : Bool) → length (pick t (kept_array (most c) (array_of g.held c) (count_of g.held c) r) (array_of g.held c)) ≡ most c
+  one_long c true = keep_long (most c) (count_of g.held c) (array_of g.held c) _ r (k.held c) (k.sized.held c)
+  one_long c false = k.sized.held c
 
-  pub keeps-one : (next : ℕ) → Keeps b (gatheredWith g r next) (p ++ (r ∷ []))
-  keeps-one next = record {
+  pub keeps_one : (next : ℕ) → Keeps b (gathered_with g r next) (p ++ (r ∷ []))
+  keeps_one next = record {
     sized = record {
-      held = λ c. ap length (sym (array-by c (channelOf r.event) g.held r)) ∙ one-long c (same c (channelOf r.event));
-      records = keep-long mostInAll g.count g.records _ r k.written k.sized.records;
+      held = λ c. ap length (sym (array_by c (channel_of r.event) g.held r)) ∙ one_long c (same c (channel_of r.event));
+      records = keep_long most_in_all g.count g.records _ r k.written k.sized.records;
     };
-    held = held_by;
-    written = keep-most mostInAll _ _ _ r k.written k.sized.records;
+    held = held_by_lem;
+    written = keep_most most_in_all _ _ _ r k.written k.sized.records;
   }
 
 -- ---- nothing is gathered
 module _ (place : ℕ) where
-  none-held : (b : Board) → Holds b (nothingGathered place).held []
+  none_held : (b : Board) → Holds b (nothing_gathered place).held []
   unfolding filter
-  none-held b F = record { counts = refl; holds = refl }
-  none-held b E = record { counts = refl; holds = refl }
-  none-held b L = record { counts = refl; holds = refl }
+  none_held b F = record { counts = refl; holds = refl }
+  none_held b E = record { counts = refl; holds = refl }
+  none_held b L = record { counts = refl; holds = refl }
 
-  none-long : (c : Channel) → length (array_of (nothingGathered place).held c) ≡ most c
-  none-long F = refl
-  none-long E = refl
-  none-long L = refl
+  none_long : (c : Channel) → length (array_of (nothing_gathered place).held c) ≡ most c
+  none_long F = refl
+  none_long E = refl
+  none_long L = refl
 
-  pub keeps-none : (b : Board) → Keeps b (nothingGathered place) []
-  keeps-none b = record {
-    sized = record { held = none-long; records = refl };
-    held = none-held b;
+  pub keeps_none : (b : Board) → Keeps b (nothing_gathered place) []
+  keeps_none b = record {
+    sized = record { held = none_long; records = refl };
+    held = none_held b;
     written = record { counts = refl; holds = refl };
   }
 
 -- ---- records more
-pub keeps-all : (b : Board) (q p : List Record) (g : Gathered) → Keeps b g q → Keeps b (gatheredAll g p) (q ++ p)
-unfolding gatheredAll
-keeps-all b q [] g k = subst (Keeps b g) (sym (append-nil q)) k
-keeps-all b q (r ∷ p) g k =
-    subst (Keeps b (gatheredAll g (r ∷ p))) (append_assoc q (r ∷ []) p)
-    (keeps-all b (q ++ (r ∷ [])) p (gatheredWith g r (g.next + length (spelled r))) (keeps-one b q r g k (g.next + length (spelled r))))
+pub keeps_all : (b : Board) (q p : List Record) (g : Gathered) → Keeps b g q → Keeps b (gathered_all g p) (q ++ p)
+unfolding gathered_all
+keeps_all b q [] g k = subst (Keeps b g) (sym (append-nil q)) k
+keeps_all b q (r ∷ p) g k =
+    subst (Keeps b (gathered_all g (r ∷ p))) (append_assoc q (r ∷ []) p)
+    (keeps_all b (q ++ (r ∷ [])) p (gathered_with g r (g.next + length (spelled r))) (keeps_one b q r g k (g.next + length (spelled r))))

@@ -2,7 +2,7 @@
 use Rattle.std.specs.Prelude.{◌≡◌, Bool, false, List, [], ◌∷◌, ℕ, ◌+◌, eqb, ltb, length, set, replicate}
 use Rattle.law.specs.Words.{pick}
 use Rattle.meaning.specs.Meaning.{Channel, F, E, L, same, most}
-use Rattle.meaning.specs.Channels.{mostInAll}
+use Rattle.meaning.specs.Channels.{most_in_all}
 use Rattle.record.specs.declared.Record.{Record}
 use Rattle.record.specs.declared.Event.TheVariants as event
 use Rattle.record.specs.declared.LineEvent.TheVariants.{SupplyOn}
@@ -11,63 +11,63 @@ use Rattle.line.specs.declared.records.ReadRecord.{ReadRecord}
 use Rattle.line.specs.Records.{spelled, RecordOk}
 use Rattle.orders.specs.declared.Held.{Held}
 use Rattle.orders.specs.Verdicts.{count_of, array_of}
-use Rattle.machine.specs.Machine.{channelOf}
+use Rattle.machine.specs.Machine.{channel_of}
 use Rattle.stamps.specs.declared.Gathered.{Gathered}
 
 -- one record more in an array of so many, of which `count` are used
-abbrev pub keptArray : ℕ → List Record → ℕ → Record → List Record
-keptArray most array count r = pick (ltb count most) (set array count r) array
+abbrev pub kept_array : ℕ → List Record → ℕ → Record → List Record
+kept_array most array count r = pick (ltb count most) (set array count r) array
 
-abbrev pub keptCount : ℕ → ℕ → ℕ
-keptCount most count = pick (ltb count most) (count + 1) (most + 1)
+abbrev pub kept_count : ℕ → ℕ → ℕ
+kept_count most count = pick (ltb count most) (count + 1) (most + 1)
 
 -- what is held of the channel c after one record more, of the channel d
-abbrev pub arrayWith : Channel → Channel → Held → Record → List Record
-arrayWith c d h r = pick (same c d) (keptArray (most c) (array_of h c) (count_of h c) r) (array_of h c)
+abbrev pub array_with : Channel → Channel → Held → Record → List Record
+array_with c d h r = pick (same c d) (kept_array (most c) (array_of h c) (count_of h c) r) (array_of h c)
 
-abbrev pub countWith : Channel → Channel → Held → ℕ
-countWith c d h = pick (same c d) (keptCount (most c) (count_of h c)) (count_of h c)
+abbrev pub count_with : Channel → Channel → Held → ℕ
+count_with c d h = pick (same c d) (kept_count (most c) (count_of h c)) (count_of h c)
 
-abbrev pub heldBy : Channel → Held → Record → Held
-heldBy d h r = record {
-  flash = arrayWith F d h r;
-  flash_count = countWith F d h;
-  eeprom = arrayWith E d h r;
-  eeprom_count = countWith E d h;
-  lines = arrayWith L d h r;
-  line_count = countWith L d h;
+abbrev pub held_by : Channel → Held → Record → Held
+held_by d h r = record {
+  flash = array_with F d h r;
+  flash_count = count_with F d h;
+  eeprom = array_with E d h r;
+  eeprom_count = count_with E d h;
+  lines = array_with L d h r;
+  line_count = count_with L d h;
 }
 
 -- a record goes to its channel
-abbrev pub heldWith : Held → Record → Held
-heldWith h r = heldBy (channelOf r.event) h r
+abbrev pub held_with : Held → Record → Held
+held_with h r = held_by (channel_of r.event) h r
 
 -- a record that stands for none
-abbrev pub noRecord : Record
-noRecord = record { stamp = 0; event = event.Line SupplyOn }
+abbrev pub no_record : Record
+no_record = record { stamp = 0; event = event.Line SupplyOn }
 
 -- nothing is gathered, and the first record stands at the place
-abbrev pub nothingGathered : ℕ → Gathered
-nothingGathered place = record {
+abbrev pub nothing_gathered : ℕ → Gathered
+nothing_gathered place = record {
   held = record {
-    flash = replicate (most F) noRecord;
+    flash = replicate (most F) no_record;
     flash_count = 0;
-    eeprom = replicate (most E) noRecord;
+    eeprom = replicate (most E) no_record;
     eeprom_count = 0;
-    lines = replicate (most L) noRecord;
+    lines = replicate (most L) no_record;
     line_count = 0;
   };
-  records = replicate mostInAll noRecord;
+  records = replicate most_in_all no_record;
   count = 0;
   next = place;
 }
 
--- one record more, the next one's place is given; a stamp that is not crowded has no more than `mostInAll`
-abbrev pub gatheredWith : Gathered → Record → ℕ → Gathered
-gatheredWith g r next = record {
-  held = heldWith g.held r;
-  records = keptArray mostInAll g.records g.count r;
-  count = keptCount mostInAll g.count;
+-- one record more, the next one's place is given; a stamp that is not crowded has no more than `most_in_all`
+abbrev pub gathered_with : Gathered → Record → ℕ → Gathered
+gathered_with g r next = record {
+  held = held_with g.held r;
+  records = kept_array most_in_all g.records g.count r;
+  count = kept_count most_in_all g.count;
   next = next;
 }
 
@@ -77,14 +77,14 @@ is_of t (ReadRecord.Value r c) = eqb r.stamp t
 is_of t (ReadRecord.Bad k) = false
 
 -- a record that was read is one more
-abbrev pub gatheredRead : Gathered → ReadRecord → Gathered
-gatheredRead g (ReadRecord.Value r c) = gatheredWith g r c.at
-gatheredRead g (ReadRecord.Bad k) = g
+abbrev pub gathered_read : Gathered → ReadRecord → Gathered
+gathered_read g (ReadRecord.Value r c) = gathered_with g r c.at
+gathered_read g (ReadRecord.Bad k) = g
 
 -- records more, of which each stands behind the one before it
-unfoldable pub gatheredAll : Gathered → List Record → Gathered
-gatheredAll g [] = g
-gatheredAll g (r ∷ p) = gatheredAll (gatheredWith g r (g.next + length (spelled r))) p
+unfoldable pub gathered_all : Gathered → List Record → Gathered
+gathered_all g [] = g
+gathered_all g (r ∷ p) = gathered_all (gathered_with g r (g.next + length (spelled r))) p
 
 -- Which records share the stamp t from a place of the text on: each one that stands there and is of that stamp, and then the one that stands
 -- behind it; none any more where none stands, or the one that does is of another stamp.
@@ -96,4 +96,4 @@ Shares text t at (r ∷ p) = RecordOk r × Stands text at (spelled r) × (r.stam
 pub record Gathers (text : List ℕ) (t : ℕ) (first g : Gathered) : Type 0 where
   pub records : List Record
   pub shares : Shares text t first.next records
-  pub gathered : g ≡ gatheredAll first records
+  pub gathered : g ≡ gathered_all first records

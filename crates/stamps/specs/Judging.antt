@@ -10,7 +10,7 @@ use Rattle.orders.specs.declared.Verdict.TheVariants.{Crowded}
 use Rattle.orders.specs.Verdicts.{Judged}
 use Rattle.stamps.specs.declared.Gathered.{Gathered}
 use Rattle.stamps.specs.declared.Judgement.{Judgement}
-use Rattle.stamps.specs.Gathering.{nothingGathered, gatheredAll, Shares}
+use Rattle.stamps.specs.Gathering.{nothing_gathered, gathered_all, Shares}
 
 -- a verdict on the stamp t with what was gathered of it
 abbrev pub judgement : Verdict → ℕ → Gathered → Judgement
@@ -19,6 +19,6 @@ judgement v t g = record { verdict = v; records = g.records; count = g.count; ne
 -- The records that share the stamp of the one at the place are gathered and judged. Where no record stands nothing is gathered, and the verdict is
 -- one that does not pass, since there the replay cannot go on: no place comes next. In a readable text a record stands at every place that is asked of.
 pub data JudgesAt (text : List ℕ) (place : ℕ) (b : Board) (c : Controls) : Judgement → Type 0 where
-  nothing : ((r : Record) → RecordOk r → Stands text place (spelled r) → ⊥) → JudgesAt text place b c (judgement Crowded 0 (nothingGathered place))
-  found : (r : Record) (p : List Record) (v : Verdict) → Shares text r.stamp place (r ∷ p) → Judged b (gatheredAll (nothingGathered place) (r ∷ p)).held c v →
-      JudgesAt text place b c (judgement v r.stamp (gatheredAll (nothingGathered place) (r ∷ p)))
+  nothing : ((r : Record) → RecordOk r → Stands text place (spelled r) → ⊥) → JudgesAt text place b c (judgement Crowded 0 (nothing_gathered place))
+  found : (r : Record) (p : List Record) (v : Verdict) → Shares text r.stamp place (r ∷ p) → Judged b (gathered_all (nothing_gathered place) (r ∷ p)).held c v →
+      JudgesAt text place b c (judgement v r.stamp (gathered_all (nothing_gathered place) (r ∷ p)))

@@ -1,11 +1,11 @@
 // One stamp of a text: its records are read, held together and judged, before anything is played.
 ghost use Rattle.std.specs.Prelude.{◌≡◌, true, [], ◌≤◌};
 ghost use Rattle.meaning.specs.Meaning.{F, E, L, most};
-ghost use Rattle.meaning.specs.Channels.{mostInAll};
-ghost use Rattle.stamps.specs.Gathering.{keptArray, keptCount, gatheredWith, noRecord, nothingGathered, is_of, gatheredRead, Shares, Gathers};
+ghost use Rattle.meaning.specs.Channels.{most_in_all};
+ghost use Rattle.stamps.specs.Gathering.{kept_array, kept_count, gathered_with, no_record, nothing_gathered, is_of, gathered_read, Shares, Gathers};
 ghost use Rattle.stamps.specs.Judging.{JudgesAt};
-ghost use Rattle.stamps.specs.Taking.{gatheredBy};
-ghost use Rattle.stamps.specs.Lone.{lostAfter, aloneVerdict, aloneJudgement};
+ghost use Rattle.stamps.specs.Taking.{gathered_by};
+ghost use Rattle.stamps.specs.Lone.{lost_after, alone_verdict, alone_judgement};
 
 use controls::Controls;
 use field::{Cursor, ReadDecimal};
@@ -28,7 +28,7 @@ fn keep_bus(
     count: usize,
     rec: Record,
 ) -> [Record; orders::MOST_BUS]
-    ensures { result ≡ keptArray (most F) array count rec }
+    ensures { result ≡ kept_array (most F) array count rec }
 {
     let mut next = array;
     if count < orders::MOST_BUS {
@@ -44,7 +44,7 @@ fn keep_line(
     count: usize,
     rec: Record,
 ) -> [Record; orders::MOST_LINE]
-    ensures { result ≡ keptArray (most L) array count rec }
+    ensures { result ≡ kept_array (most L) array count rec }
 {
     let mut next = array;
     if count < orders::MOST_LINE {
@@ -60,7 +60,7 @@ fn keep_in_all(
     count: usize,
     rec: Record,
 ) -> [Record; orders::MOST_IN_ALL]
-    ensures { result ≡ keptArray mostInAll array count rec }
+    ensures { result ≡ kept_array most_in_all array count rec }
 {
     let mut next = array;
     if count < orders::MOST_IN_ALL {
@@ -72,8 +72,8 @@ fn keep_in_all(
 
 // The count says one more than the most where there are more.
 fn count_more(count: usize, most: usize) -> usize
-    requires { most ≤ mostInAll }
-    ensures { result ≡ keptCount most count }
+    requires { most ≤ most_in_all }
+    ensures { result ≡ kept_count most count }
 {
     if count < most {
         return count + 1;
@@ -82,7 +82,7 @@ fn count_more(count: usize, most: usize) -> usize
 }
 
 fn gather_flash(g: Gathered, rec: Record, next: usize) -> Gathered
-    ensures { result ≡ gatheredBy F g rec next }
+    ensures { result ≡ gathered_by F g rec next }
 {
     let held = g.held;
     let old = held.flash;
@@ -108,7 +108,7 @@ fn gather_flash(g: Gathered, rec: Record, next: usize) -> Gathered
 }
 
 fn gather_eeprom(g: Gathered, rec: Record, next: usize) -> Gathered
-    ensures { result ≡ gatheredBy E g rec next }
+    ensures { result ≡ gathered_by E g rec next }
 {
     let held = g.held;
     let flash = held.flash;
@@ -134,7 +134,7 @@ fn gather_eeprom(g: Gathered, rec: Record, next: usize) -> Gathered
 }
 
 fn gather_line(g: Gathered, rec: Record, next: usize) -> Gathered
-    ensures { result ≡ gatheredBy L g rec next }
+    ensures { result ≡ gathered_by L g rec next }
 {
     let held = g.held;
     let flash = held.flash;
@@ -161,7 +161,7 @@ fn gather_line(g: Gathered, rec: Record, next: usize) -> Gathered
 
 // One record more of the stamp goes to its channel; the next one stands at `next`.
 fn gather_one(g: Gathered, rec: Record, next: usize) -> Gathered
-    ensures { result ≡ gatheredWith g rec next }
+    ensures { result ≡ gathered_with g rec next }
 {
     let event = rec.event;
     match event {
@@ -173,7 +173,7 @@ fn gather_one(g: Gathered, rec: Record, next: usize) -> Gathered
 
 // A record that stands for none.
 fn no_record() -> Record
-    ensures { result ≡ noRecord }
+    ensures { result ≡ no_record }
 {
     Record {
         stamp: 0,
@@ -183,7 +183,7 @@ fn no_record() -> Record
 
 // Nothing yet; the first record stands at `next`.
 fn none_gathered(next: usize) -> Gathered
-    ensures { result ≡ nothingGathered next }
+    ensures { result ≡ nothing_gathered next }
 {
     let none = no_record();
     let held = Held {
@@ -214,7 +214,7 @@ fn shares(read: ReadRecord, stamp: u32) -> bool
 
 // The record that was read is one more; where none was, all stays.
 fn gather_read(g: Gathered, read: ReadRecord) -> Gathered
-    ensures { result ≡ gatheredRead g read }
+    ensures { result ≡ gathered_read g read }
 {
     match read {
         ReadRecord::Value(rec, c) => gather_one(g, rec, c.at),
@@ -263,7 +263,7 @@ fn over_at(text: &[u8], place: usize, stamp: u32) -> bool
 
 // Whether the status is lost after a record, which is played for it.
 fn lost_played(rec: Record, board: Board, controls: Controls) -> bool
-    ensures { result ≡ lostAfter board controls rec }
+    ensures { result ≡ lost_after board controls rec }
 {
     let step = controls.play(board, rec);
     let next = step.controls;
@@ -272,7 +272,7 @@ fn lost_played(rec: Record, board: Board, controls: Controls) -> bool
 
 // The same: only a line record can lose it, so only that one is played.
 fn lost_by(rec: Record, board: Board, controls: Controls) -> bool
-    ensures { result ≡ lostAfter board controls rec }
+    ensures { result ≡ lost_after board controls rec }
 {
     let event = rec.event;
     match event {
@@ -284,7 +284,7 @@ fn lost_by(rec: Record, board: Board, controls: Controls) -> bool
 
 // What is found at a stamp of one record: it is not crowded, and has one order.
 fn judge_alone(rec: Record, board: Board, controls: Controls) -> Verdict
-    ensures { result ≡ aloneVerdict board controls rec }
+    ensures { result ≡ alone_verdict board controls rec }
 {
     if lost_by(rec, board, controls) {
         Verdict::Lost
@@ -295,7 +295,7 @@ fn judge_alone(rec: Record, board: Board, controls: Controls) -> Verdict
 
 // The judgement on a stamp of one record; nothing is gathered by channel.
 fn found_alone(rec: Record, next: usize, board: Board, controls: Controls) -> Judgement
-    ensures { result ≡ aloneJudgement board controls rec next }
+    ensures { result ≡ alone_judgement board controls rec next }
 {
     let none = no_record();
     let mut records = [none; orders::MOST_IN_ALL];

@@ -8,36 +8,36 @@ use lib.ListN.{drop}
 use Rattle.record.specs.declared.Record.{Record}
 use Rattle.record.specs.declared.Answer.{Answer}
 use Rattle.record.specs.declared.Answer.TheVariants.{BadLine, BackInTime, Impossible}
-use Rattle.record.specs.Answers.{answerNumber}
-use Rattle.line.proofs.Counted.{record-field, board-field}
+use Rattle.record.specs.Answers.{answer_number}
+use Rattle.line.proofs.Counted.{record_field, board_field}
 use Rattle.text.specs.Texts.{Wrong, Refused}
-use Rattle.text.specs.Texts.Wrong.{noRecord, falls, cannot}
-use Rattle.text.specs.Texts.Refused.{noBoard, badLine}
+use Rattle.text.specs.Texts.Wrong.{no_record, falls, cannot}
+use Rattle.text.specs.Texts.Refused.{no_board, bad_line}
 
-wrong-small : {text : List ℕ} {at : ℕ} {rs : List Record} {a : Answer} {k : ℕ} → Wrong text at rs a k → k ≤ 6
-wrong-small {text} {at} (noRecord h n) = (record-field (drop at text)).1
-wrong-small (falls r o s h) = omega arith
-wrong-small (cannot r o s h i) = omega arith
+wrong_small : {text : List ℕ} {at : ℕ} {rs : List Record} {a : Answer} {k : ℕ} → Wrong text at rs a k → k ≤ 6
+wrong_small {text} {at} (no_record h n) = (record_field (drop at text)).1
+wrong_small (falls r o s h) = omega arith
+wrong_small (cannot r o s h i) = omega arith
 
-pub field-small : {text : List ℕ} {a : Answer} {n k : ℕ} → Refused text a n k → k ≤ 6
-field-small {text} (noBoard none) = omega (arith, board-field text)
-field-small (badLine b rs f w) = wrong-small w
+pub field_small : {text : List ℕ} {a : Answer} {n k : ℕ} → Refused text a n k → k ≤ 6
+field_small {text} (no_board none) = omega (arith, board_field text)
+field_small (bad_line b rs f w) = wrong_small w
 
 -- the field with the answer a
 abbrev pub FieldOf : Answer → ℕ → Type 0
 FieldOf a k = ((a ≡ BadLine) × (1 ≤ k)) ⊎ ((a ≡ BadLine → ⊥) × (k ≡ 0))
 
-four-apart : BackInTime ≡ BadLine → ⊥
-four-apart e = let z : ◌≡◌ {A = ℕ} 4 3 = ap answerNumber e in omega arith
+four_apart : BackInTime ≡ BadLine → ⊥
+four_apart e = let z : ◌≡◌ {A = ℕ} 4 3 = ap answer_number e in omega arith
 
-five-apart : Impossible ≡ BadLine → ⊥
-five-apart e = let z : ◌≡◌ {A = ℕ} 5 3 = ap answerNumber e in omega arith
+five_apart : Impossible ≡ BadLine → ⊥
+five_apart e = let z : ◌≡◌ {A = ℕ} 5 3 = ap answer_number e in omega arith
 
-wrong-field : {text : List ℕ} {at : ℕ} {rs : List Record} {a : Answer} {k : ℕ} → Wrong text at rs a k → FieldOf a k
-wrong-field {text} {at} (noRecord h n) = inl (refl, (record-field (drop at text)).0)
-wrong-field (falls r o s h) = inr (four-apart, refl)
-wrong-field (cannot r o s h i) = inr (five-apart, refl)
+wrong_field : {text : List ℕ} {at : ℕ} {rs : List Record} {a : Answer} {k : ℕ} → Wrong text at rs a k → FieldOf a k
+wrong_field {text} {at} (no_record h n) = inl (refl, (record_field (drop at text)).0)
+wrong_field (falls r o s h) = inr (four_apart, refl)
+wrong_field (cannot r o s h i) = inr (five_apart, refl)
 
 pub field_of : {text : List ℕ} {a : Answer} {n k : ℕ} → Refused text a n k → FieldOf a k
-field_of {text} (noBoard none) = inl (refl, (board-field text).0)
-field_of (badLine b rs f w) = wrong-field w
+field_of {text} (no_board none) = inl (refl, (board_field text).0)
+field_of (bad_line b rs f w) = wrong_field w

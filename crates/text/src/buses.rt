@@ -1,6 +1,6 @@
 // How each channel's bus stands between its records (document 01, 'The trace', impossible records).
 ghost use Rattle.std.specs.Prelude.{◌≡◌};
-ghost use Rattle.text.specs.Buses.{flashBus, eepromBus, allClosed, moved};
+ghost use Rattle.text.specs.Buses.{flash_bus, eeprom_bus, all_closed, moved};
 
 use record::{EepromEvent, Event, FlashEvent};
 
@@ -31,7 +31,7 @@ pub enum Moves {
 }
 
 pub fn all_closed() -> Buses
-    ensures { result ≡ allClosed }
+    ensures { result ≡ all_closed }
 {
     Buses {
         flash: Bus::Closed,
@@ -40,7 +40,7 @@ pub fn all_closed() -> Buses
 }
 
 fn flash_bus(bus: Bus, e: FlashEvent) -> Moved
-    ensures { result ≡ flashBus bus e }
+    ensures { result ≡ flash_bus bus e }
 {
     match bus {
         Bus::Closed => match e {
@@ -68,7 +68,7 @@ fn flash_bus(bus: Bus, e: FlashEvent) -> Moved
 }
 
 fn eeprom_bus(bus: Bus, e: EepromEvent) -> Moved
-    ensures { result ≡ eepromBus bus e }
+    ensures { result ≡ eeprom_bus bus e }
 {
     match bus {
         Bus::Closed => match e {

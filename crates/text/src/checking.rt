@@ -1,6 +1,6 @@
 // The first bad line of a text, and within it refusal 3, then 4, then 5; of a 3 the number of the line's first bad field too (document 02, request 2/12).
 ghost use Rattle.std.specs.Prelude.{◌≡◌, ltb, length};
-ghost use Rattle.text.specs.Texts.{Checks, textLimit};
+ghost use Rattle.text.specs.Texts.{Checks, text_limit};
 
 use crate::buses::Moves;
 use field::Cursor;
@@ -19,7 +19,7 @@ pub const LIMIT: usize = 65536;
 
 // Refusal 2.
 pub fn too_long(text: &[u8]) -> bool
-    ensures { result ≡ ltb textLimit (length text.now) }
+    ensures { result ≡ ltb text_limit (length text.now) }
 {
     LIMIT < text.len()
 }

@@ -11,27 +11,27 @@ module _ {C B L K E F B' L' : Type 0} (X : Control C B L K E F) (asBus : B' → 
     running = X.running;
     kind = X.kind;
     next = λ f b k. X.next f (asBus b) k;
-    cycleOf = λ f b. X.cycleOf f (asBus b);
+    cycle_of = λ f b. X.cycle_of f (asBus b);
     Tracks = X.Tracks;
     Good = X.Good;
     hint = λ f b. X.hint f (asBus b);
     Telling = X.Telling;
   }
 
-  pub through-lawful : Lawful X → Lawful through
-  through-lawful A = record {
-    good-bus = λ c b. A.good-bus c (asBus b);
-    good-line = λ c l. A.good-line c (asLine l);
+  pub through_lawful : Lawful X → Lawful through
+  through_lawful A = record {
+    good_bus = λ c b. A.good_bus c (asBus b);
+    good_line = λ c l. A.good_line c (asLine l);
     frame = A.frame;
-    starts-idle = λ c b. A.starts-idle c (asBus b);
-    starts-runs = λ c f b. A.starts-runs c f (asBus b);
-    ends-runs = λ c b. A.ends-runs c (asBus b);
-    ends-idle = λ c b. A.ends-idle c (asBus b);
-    fetch-idle = λ c b. A.fetch-idle c (asBus b);
-    fetch-keeps = λ c b. A.fetch-keeps c (asBus b);
-    plain-keeps = λ c b. A.plain-keeps c (asBus b);
-    line-keeps = λ c l. A.line-keeps c (asLine l);
-    tracks-bus = λ c f b. A.tracks-bus c f (asBus b);
-    tracks-line = λ c f l. A.tracks-line c f (asLine l);
+    starts_idle = λ c b. A.starts_idle c (asBus b);
+    starts_runs = λ c f b. A.starts_runs c f (asBus b);
+    ends_runs = λ c b. A.ends_runs c (asBus b);
+    ends_idle = λ c b. A.ends_idle c (asBus b);
+    fetch_idle = λ c b. A.fetch_idle c (asBus b);
+    fetch_keeps = λ c b. A.fetch_keeps c (asBus b);
+    plain_keeps = λ c b. A.plain_keeps c (asBus b);
+    line_keeps = λ c l. A.line_keeps c (asLine l);
+    tracks_bus = λ c f b. A.tracks_bus c f (asBus b);
+    tracks_line = λ c f l. A.tracks_line c f (asLine l);
     tells = λ c f b. A.tells c f (asBus b);
   }

@@ -4,8 +4,8 @@ use mathlib.Core.List.{List}
 use Prim.Native.Nat.{ℕ}
 use Rattle.record.specs.declared.Chip.TheVariants.{Flash, Eeprom}
 use Rattle.times.specs.declared.Touched.{Touched}
-use Rattle.times.specs.Put.{pagesWith, timesWith}
+use Rattle.times.specs.Put.{pages_with, times_with}
 
-pub both-put : (stamp : ℕ) (x : Touched) (xs ys zs : List ℕ) → ys ≡ pagesWith Flash stamp x.flash xs → zs ≡ pagesWith Eeprom stamp x.eeprom ys → zs ≡ timesWith stamp x xs
-unfolding timesWith
-both-put stamp x xs ys zs f e = e ∙ ap (pagesWith Eeprom stamp x.eeprom) f
+pub both_put : (stamp : ℕ) (x : Touched) (xs ys zs : List ℕ) → ys ≡ pages_with Flash stamp x.flash xs → zs ≡ pages_with Eeprom stamp x.eeprom ys → zs ≡ times_with stamp x xs
+unfolding times_with
+both_put stamp x xs ys zs f e = e ∙ ap (pages_with Eeprom stamp x.eeprom) f

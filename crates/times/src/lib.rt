@@ -1,7 +1,7 @@
 // The last writing time of each page (document 02, request 1/12): which pages a cycle touches, and the table that a caller lends for the times.
 ghost use Rattle.std.specs.Prelude.{◌≡◌};
-ghost use Rattle.times.specs.Times.{written, pagesOf, firstEntry, entryByte};
-ghost use Rattle.times.specs.Put.{entriesWith, pagesWith, timesWith};
+ghost use Rattle.times.specs.Times.{written, pages_of, first_entry, entry_byte};
+ghost use Rattle.times.specs.Put.{entries_with, pages_with, times_with};
 
 use record::Chip;
 
@@ -33,7 +33,7 @@ pub const TIMES: usize = ENTRY * ENTRIES as usize;
 
 // How many pages are kept of a chip.
 pub fn pages_of(chip: Chip) -> u32
-    ensures { result ≡ pagesOf chip }
+    ensures { result ≡ pages_of chip }
 {
     match chip {
         Chip::Flash => FLASH_PAGES,
@@ -43,7 +43,7 @@ pub fn pages_of(chip: Chip) -> u32
 
 // The entry of a chip's page 0: the flash's stand first.
 pub fn first_entry(chip: Chip) -> u32
-    ensures { result ≡ firstEntry chip }
+    ensures { result ≡ first_entry chip }
 {
     match chip {
         Chip::Flash => 0,
@@ -53,7 +53,7 @@ pub fn first_entry(chip: Chip) -> u32
 
 // Byte q of the entry of a page that was written at the stamp.
 fn entry_byte(stamp: u32, q: usize) -> u8
-    ensures { result ≡ entryByte (written stamp) q }
+    ensures { result ≡ entry_byte (written stamp) q }
 {
     if q == 0 {
         return 1;
@@ -75,7 +75,7 @@ fn entry_byte(stamp: u32, q: usize) -> u8
 
 // `many` entries from the entry `first` on are written at the stamp; what would stand past the table is left out.
 fn write_entries(table: &mut [u8], first: u32, many: u32, stamp: u32)
-    ensures { table.new ≡ entriesWith first many stamp table.old }
+    ensures { table.new ≡ entries_with first many stamp table.old }
 {
     let end = ENTRY * (first as usize + many as usize);
     let mut k = ENTRY * first as usize;
@@ -90,7 +90,7 @@ fn write_entries(table: &mut [u8], first: u32, many: u32, stamp: u32)
 
 // The pages of one chip; a page that the chip has not is left out.
 fn put_pages(table: &mut [u8], chip: Chip, stamp: u32, pages: Pages)
-    ensures { table.new ≡ pagesWith chip stamp pages table.old }
+    ensures { table.new ≡ pages_with chip stamp pages table.old }
 {
     match pages {
         Pages::None => {
@@ -112,7 +112,7 @@ fn put_pages(table: &mut [u8], chip: Chip, stamp: u32, pages: Pages)
 
 // Both chips' pages that a record of this stamp touches.
 pub fn put_times(table: &mut [u8], stamp: u32, touched: Touched)
-    ensures { table.new ≡ timesWith stamp touched table.old }
+    ensures { table.new ≡ times_with stamp touched table.old }
 {
     let flash = touched.flash;
     let eeprom = touched.eeprom;

@@ -5,46 +5,46 @@ use mathlib.Core.List.{List}
 use Prim.Native.Nat.{ℕ}
 use lib.Dec.{ltb}
 use lib.ListN.{length, replicate}
-use Rattle.law.specs.Choice.{true-not-false}
+use Rattle.law.specs.Choice.{true_not_false}
 use Rattle.record.specs.declared.Board.{Board}
 use Rattle.record.specs.declared.Answer.{Answer}
-use Rattle.record.specs.Answers.{answerNumber}
+use Rattle.record.specs.Answers.{answer_number}
 use Rattle.field.specs.declared.Cursor.{Cursor}
 use Rattle.image.specs.Images.{Images}
-use Rattle.line.specs.Boards.{spelledBoard}
+use Rattle.line.specs.Boards.{spelled_board}
 use Rattle.text.specs.declared.checking.Checked.{Checked}
-use Rattle.text.specs.Texts.{textLimit, Checks}
-use Rattle.record.specs.Lengths.{repliesLength, resultLength}
-use Rattle.times.specs.Times.{timesLength}
-use Rattle.buffers.specs.Buffers.{Buffers, fit, resultBytes, resultAfter}
-use Rattle.buffers.proofs.Result.{result-written}
-use Rattle.call.specs.Replay.{Ended, ended_as, refusedAs, Replays}
-use Rattle.call.specs.Run.{endedWith, Runs}
+use Rattle.text.specs.Texts.{text_limit, Checks}
+use Rattle.record.specs.Lengths.{replies_length, result_length}
+use Rattle.times.specs.Times.{times_length}
+use Rattle.buffers.specs.Buffers.{Buffers, fit, result_bytes, result_after}
+use Rattle.buffers.proofs.Result.{result_written}
+use Rattle.call.specs.Replay.{Ended, ended_as, refused_as, Replays}
+use Rattle.call.specs.Run.{ended_with, Runs}
 
 -- ---- after the loop the result is written
-pub runs-written : (text : List ℕ) (first : ℕ) (b : Board) (x : Images) (never old : List ℕ) (a : Answer) (t c n : ℕ) (y : Images) (noted left res res' : List ℕ) →
-    Runs text first b x never old (endedWith a t c y noted left) → never ≡ replicate timesLength 0 → old ≡ replicate repliesLength 0 → n ≡ answerNumber a → res' ≡ resultAfter n t c 0 res → length res ≡ resultLength →
-    Runs text first b x (replicate timesLength 0) (replicate repliesLength 0) (ended_as n (record { images = y; times = noted; replies = left; result = res' }))
-runs-written text first b x never old a t c n y noted left res res' r v z h w l =
-    let k = w ∙ result-written n t c 0 res l in
-    subst (λ (k : Ended). Runs text first b x (replicate timesLength 0) (replicate repliesLength 0) k)
-    (λ i. ended_as (sym h i) (record { images = y; times = noted; replies = left; result = sym (k ∙ ap (λ (m : ℕ). resultBytes m t c 0) h) i }))
-    (subst₂ (λ (u l : List ℕ). Runs text first b x u l (endedWith a t c y noted left)) v z r)
+pub runs_written : (text : List ℕ) (first : ℕ) (b : Board) (x : Images) (never old : List ℕ) (a : Answer) (t c n : ℕ) (y : Images) (noted left res res' : List ℕ) →
+    Runs text first b x never old (ended_with a t c y noted left) → never ≡ replicate times_length 0 → old ≡ replicate replies_length 0 → n ≡ answer_number a → res' ≡ result_after n t c 0 res → length res ≡ result_length →
+    Runs text first b x (replicate times_length 0) (replicate replies_length 0) (ended_as n (record { images = y; times = noted; replies = left; result = res' }))
+runs_written text first b x never old a t c n y noted left res res' r v z h w l =
+    let k = w ∙ result_written n t c 0 res l in
+    subst (λ (k : Ended). Runs text first b x (replicate times_length 0) (replicate replies_length 0) k)
+    (λ i. ended_as (sym h i) (record { images = y; times = noted; replies = left; result = sym (k ∙ ap (λ (m : ℕ). result_bytes m t c 0) h) i }))
+    (subst₂ (λ (u l : List ℕ). Runs text first b x u l (ended_with a t c y noted left)) v z r)
 
 clash : {A : Type 0} {t : Bool} → t ≡ true → t ≡ false → A
-clash h k = absurd (true-not-false (sym h ∙ k))
+clash h k = absurd (true_not_false (sym h ∙ k))
 
 -- ---- refusals
 abbrev refusal : ℕ → Buffers → List ℕ → Ended
 refusal n x res = ended_as n (record { images = x.images; times = x.times; replies = x.replies; result = res })
 
-refusal_is : (a : Answer) (line field n : ℕ) (x : Buffers) (res : List ℕ) → n ≡ answerNumber a → res ≡ resultAfter (answerNumber a) line 0 field x.result → refusal n x res ≡ refusedAs a line field x
-unfolding refusedAs
+refusal_is : (a : Answer) (line field n : ℕ) (x : Buffers) (res : List ℕ) → n ≡ answer_number a → res ≡ result_after (answer_number a) line 0 field x.result → refusal n x res ≡ refused_as a line field x
+unfolding refused_as
 refusal_is a line field n x res h w = λ i. refusal (h i) x (w i)
 
 module _ (text : List ℕ) (x : Buffers) where
-  pub replays-unfit : (n : ℕ) (res : List ℕ) → fit x ≡ false → n ≡ answerNumber Answer.BadBuffers → res ≡ resultAfter (answerNumber Answer.BadBuffers) 0 0 0 x.result → Replays text x (refusal n x res)
-  replays-unfit n res u h w = record {
+  pub replays_unfit : (n : ℕ) (res : List ℕ) → fit x ≡ false → n ≡ answer_number Answer.BadBuffers → res ≡ result_after (answer_number Answer.BadBuffers) 0 0 0 x.result → Replays text x (refusal n x res)
+  replays_unfit n res u h w = record {
     unfit = λ k. refusal_is Answer.BadBuffers 0 0 n x res h w;
     long = λ k. clash k u;
     bad = λ k. clash k u;
@@ -53,8 +53,8 @@ module _ (text : List ℕ) (x : Buffers) where
   }
 
   module _ (fits : fit x ≡ true) where
-    pub replays-long : (n : ℕ) (res : List ℕ) → ltb textLimit (length text) ≡ true → n ≡ answerNumber Answer.TooLong → res ≡ resultAfter (answerNumber Answer.TooLong) 0 0 0 x.result → Replays text x (refusal n x res)
-    replays-long n res u h w = record {
+    pub replays_long : (n : ℕ) (res : List ℕ) → ltb text_limit (length text) ≡ true → n ≡ answer_number Answer.TooLong → res ≡ result_after (answer_number Answer.TooLong) 0 0 0 x.result → Replays text x (refusal n x res)
+    replays_long n res u h w = record {
       unfit = λ k. clash fits k;
       long = λ k l. refusal_is Answer.TooLong 0 0 n x res h w;
       bad = λ k l. clash u l;
@@ -62,15 +62,15 @@ module _ (text : List ℕ) (x : Buffers) where
       read = λ k l. clash u l;
     }
 
-    module _ (short : ltb textLimit (length text) ≡ false) (r : Checked) (checks : Checks text r) where
+    module _ (short : ltb text_limit (length text) ≡ false) (r : Checked) (checks : Checks text r) where
       -- what the check answered
       abbrev IsReadable : Checked → Type 0
       IsReadable (Checked.Readable b c) = Unit {0}
       IsReadable (Checked.Refused a n f) = ⊥
 
-      abbrev boardOf : Board → Checked → Board
-      boardOf d (Checked.Readable b c) = b
-      boardOf d (Checked.Refused a n f) = d
+      abbrev board_of : Board → Checked → Board
+      board_of d (Checked.Readable b c) = b
+      board_of d (Checked.Refused a n f) = d
 
       abbrev place_of : Checked → ℕ
       place_of (Checked.Readable b c) = c.at
@@ -88,27 +88,27 @@ module _ (text : List ℕ) (x : Buffers) where
       field_of (Checked.Readable b c) = 0
       field_of (Checked.Refused a n f) = f
 
-      pub replays-bad : (a : Answer) (line field : ℕ) → r ≡ Checked.Refused a line field → (n : ℕ) (res : List ℕ) → n ≡ answerNumber a → res ≡ resultAfter (answerNumber a) line 0 field x.result → Replays text x (refusal n x res)
-      replays-bad a line field is n res h w = record {
+      pub replays_bad : (a : Answer) (line field : ℕ) → r ≡ Checked.Refused a line field → (n : ℕ) (res : List ℕ) → n ≡ answer_number a → res ≡ result_after (answer_number a) line 0 field x.result → Replays text x (refusal n x res)
+      replays_bad a line field is n res h w = record {
         unfit = λ k. clash fits k;
         long = λ k l. clash l short;
         bad = λ k l c m f q.
             let e = sym is ∙ checks.refused c m f q in
-            refusal_is a line field n x res h w ∙ ap (λ (y : Checked). refusedAs (answer_of a y) (line_of y) (field_of y) x) e;
+            refusal_is a line field n x res h w ∙ ap (λ (y : Checked). refused_as (answer_of a y) (line_of y) (field_of y) x) e;
         played = λ k l b rs q. absurd (subst IsReadable (sym (checks.readable b rs q) ∙ is) tt);
         read = λ k l. checks.only;
       }
 
-      pub replays-played : (b : Board) (c : Cursor) → r ≡ Checked.Readable b c → (e : Ended) → Runs text c.at b x.images (replicate timesLength 0) (replicate repliesLength 0) e → Replays text x e
-      replays-played b c is e runs = record {
+      pub replays_played : (b : Board) (c : Cursor) → r ≡ Checked.Readable b c → (e : Ended) → Runs text c.at b x.images (replicate times_length 0) (replicate replies_length 0) e → Replays text x e
+      replays_played b c is e runs = record {
         unfit = λ k. clash fits k;
         long = λ k l. clash l short;
         bad = λ k l a n f q. absurd (subst IsReadable (sym is ∙ checks.refused a n f q) tt);
         played = λ k l d rs q.
             let h = sym (checks.readable d rs q) ∙ is in
-            let same-board : d ≡ b = ap (boardOf d) h in
-            let same_place : length (spelledBoard d) ≡ c.at = ap place_of h in
-            let go = subst (λ (y : Board). Runs text c.at y x.images (replicate timesLength 0) (replicate repliesLength 0) e) (sym same-board) runs in
+            let same-board : d ≡ b = ap (board_of d) h in
+            let same_place : length (spelled_board d) ≡ c.at = ap place_of h in
+            let go = subst (λ (y : Board). Runs text c.at y x.images (replicate times_length 0) (replicate replies_length 0) e) (sym same-board) runs in
             go.runs rs q (sym same_place) refl refl;
         read = λ k l. checks.only;
       }

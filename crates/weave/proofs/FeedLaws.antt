@@ -11,90 +11,90 @@ use Rattle.field.proofs.Reading.{Got}
 use Rattle.field.proofs.Answers.{zero_one}
 use Rattle.line.specs.Records.{spelled, RecordOk}
 use Rattle.level.specs.declared.Level.{Level}
-use Rattle.level.specs.Spelled.{spelledLevel, LevelOk}
+use Rattle.level.specs.Spelled.{spelled_level, LevelOk}
 use Rattle.decode.specs.declared.Out.{Out}
 use Rattle.decode.specs.declared.Out.TheVariants.{Nothing, One, Two}
 use Rattle.decode.specs.declared.bits.Bits.{Bits}
 use Rattle.decode.specs.declared.bits.Turn.{Turn}
-use Rattle.decode.specs.Bits.{eventsOf}
-use Rattle.decode.specs.Decoded.{turn_of, recordAt, decodedFrom}
+use Rattle.decode.specs.Bits.{events_of}
+use Rattle.decode.specs.Decoded.{turn_of, record_at, decoded_from}
 use Rattle.capture.specs.declared.Part.{Part}
 use Rattle.capture.specs.Taken.{is_of, part_of}
 use Rattle.capture.specs.OneByOne.{records, levels}
-use Rattle.capture.proofs.OneByOne.{some-record, some_level, took, not_none, at-end}
+use Rattle.capture.proofs.OneByOne.{some_record, some_level, took, not_none, at_end}
 use Rattle.weave.specs.declared.feed.Behind.{Behind}
 use Rattle.weave.specs.declared.feed.LevelFeed.{LevelFeed}
 use Rattle.weave.specs.declared.feed.TraceFeed.{TraceFeed}
-use Rattle.weave.specs.Feeding.{behindOf, giveBy, giveOf, LevelsLeft, TraceLeft, letterOf, Passes, inLevels, inTrace, levelFeed, traceFeed, PlaceLeft, Gives, done, next, FeedsLevels, FeedsTrace, Feeds}
+use Rattle.weave.specs.Feeding.{behind_of, give_by, give_of, LevelsLeft, TraceLeft, letter_of, Passes, in_levels, in_trace, level_feed, trace_feed, PlaceLeft, Gives, done, next, FeedsLevels, FeedsTrace, Feeds}
 
 not_done : {A : Type 0} {x : Record} {p : Behind} → LevelFeed.Done ≡ LevelFeed.Next x p → A
 not_done h = absurd (zero_one (cc))
 
 -- ---- the capture
 module _ (text : List ℕ) (at : ℕ) (l : Level) (s : Bits) where
-  given : (o : Out) (x : Record) (p : Behind) (trace : List ℕ) (xs : List Record) → giveBy at l s o ≡ LevelFeed.Next x p → LevelsLeft text (behindOf at l s o) xs → Gives text trace (levelFeed (LevelFeed.Next x p)) xs
-  unfolding PlaceLeft eventsOf
+  given : (o : Out) (x : Record) (p : Behind) (trace : List ℕ) (xs : List Record) → give_by at l s o ≡ LevelFeed.Next x p → LevelsLeft text (behind_of at l s o) xs → Gives text trace (level_feed (LevelFeed.Next x p)) xs
+  unfolding PlaceLeft events_of
   given Nothing x p trace xs h k = not_done h
   given (One e) x p trace xs h k =
-      subst (λ (r : LevelFeed). Gives text trace (levelFeed r) xs) h
-      (subst (Gives text trace (levelFeed (giveBy at l s (One e)))) (sym k.is)
-      (next (recordAt l.stamp e) (inLevels (behindOf at l s Nothing)) _ (record { ls = k.ls; from = k.from; is = refl })))
+      subst (λ (r : LevelFeed). Gives text trace (level_feed r) xs) h
+      (subst (Gives text trace (level_feed (give_by at l s (One e)))) (sym k.is)
+      (next (record_at l.stamp e) (in_levels (behind_of at l s Nothing)) _ (record { ls = k.ls; from = k.from; is = refl })))
   given (Two d e) x p trace xs h k =
-      subst (λ (r : LevelFeed). Gives text trace (levelFeed r) xs) h
-      (subst (Gives text trace (levelFeed (giveBy at l s (Two d e)))) (sym k.is)
-      (next (recordAt l.stamp d) (inLevels (behindOf at l s (One e))) _ (record { ls = k.ls; from = k.from; is = refl })))
+      subst (λ (r : LevelFeed). Gives text trace (level_feed r) xs) h
+      (subst (Gives text trace (level_feed (give_by at l s (Two d e)))) (sym k.is)
+      (next (record_at l.stamp d) (in_levels (behind_of at l s (One e))) _ (record { ls = k.ls; from = k.from; is = refl })))
 
-  nothing-more : (o : Out) (xs : List Record) → giveBy at l s o ≡ LevelFeed.Done → LevelsLeft text (behindOf at l s o) xs → LevelsLeft text (behindOf at l s Nothing) xs
-  nothing-more Nothing xs h k = k
-  nothing-more (One e) xs h k = not_done (sym h)
-  nothing-more (Two d e) xs h k = not_done (sym h)
+  nothing_more : (o : Out) (xs : List Record) → give_by at l s o ≡ LevelFeed.Done → LevelsLeft text (behind_of at l s o) xs → LevelsLeft text (behind_of at l s Nothing) xs
+  nothing_more Nothing xs h k = k
+  nothing_more (One e) xs h k = not_done (sym h)
+  nothing_more (Two d e) xs h k = not_done (sym h)
 
 -- what is still to come at `from` is still to come behind the line l
 pub record Still (text : List ℕ) (from : Behind) (at : ℕ) (l : Level) (s : Bits) : Type 0 where
-  pub still : (xs : List Record) → LevelsLeft text from xs → LevelsLeft text (behindOf at l s Nothing) xs
+  pub still : (xs : List Record) → LevelsLeft text from xs → LevelsLeft text (behind_of at l s Nothing) xs
 
 -- where the search begins nothing is passed over yet
-pub levels-begin : {text : List ℕ} {at : ℕ} {l : Level} {s : Bits} → Still text (behindOf at l s Nothing) at l s
-levels-begin = record { still = λ xs k. k }
+pub levels_begin : {text : List ℕ} {at : ℕ} {l : Level} {s : Bits} → Still text (behind_of at l s Nothing) at l s
+levels_begin = record { still = λ xs k. k }
 
 module _ {text : List ℕ} {from : Behind} where
-  pub levels-first : {r : LevelFeed} {x : Record} {p : Behind} → r ≡ giveOf from → r ≡ LevelFeed.Next x p → FeedsLevels text from (LevelFeed.Next x p)
-  levels-first {r} {x} {p} h t = record { feeds = λ trace xs k. given text from.at from.last from.bits from.more x p trace xs (sym h ∙ t) k }
+  pub levels_first : {r : LevelFeed} {x : Record} {p : Behind} → r ≡ give_of from → r ≡ LevelFeed.Next x p → FeedsLevels text from (LevelFeed.Next x p)
+  levels_first {r} {x} {p} h t = record { feeds = λ trace xs k. given text from.at from.last from.bits from.more x p trace xs (sym h ∙ t) k }
 
-  pub levels-start : {r : LevelFeed} → r ≡ giveOf from → r ≡ LevelFeed.Done → Still text from from.at from.last from.bits
-  levels-start h t = record { still = λ xs k. nothing-more text from.at from.last from.bits from.more xs (sym h ∙ t) k }
+  pub levels_start : {r : LevelFeed} → r ≡ give_of from → r ≡ LevelFeed.Done → Still text from from.at from.last from.bits
+  levels_start h t = record { still = λ xs k. nothing_more text from.at from.last from.bits from.more xs (sym h ∙ t) k }
 
   module _ {at : ℕ} {a : Level} {s : Bits} (still : Still text from at a s) where
     -- what is fed from there is fed from `from` on
-    pub levels-from : {r : LevelFeed} → FeedsLevels text (behindOf at a s Nothing) r → FeedsLevels text from r
-    levels-from k = record { feeds = λ trace xs z. k.feeds trace xs (still.still xs z) }
+    pub levels_from : {r : LevelFeed} → FeedsLevels text (behind_of at a s Nothing) r → FeedsLevels text from r
+    levels_from k = record { feeds = λ trace xs z. k.feeds trace xs (still.still xs z) }
 
-    pub levels-none : at < length text → ((l : Level) → LevelOk l → Stands text at (spelledLevel l) → ⊥) → FeedsLevels text from LevelFeed.Done
+    pub levels_none : at < length text → ((l : Level) → LevelOk l → Stands text at (spelled_level l) → ⊥) → FeedsLevels text from LevelFeed.Done
     unfolding levels
-    levels-none h n = record { feeds = λ trace xs k. let z = still.still xs k in absurd (not_none z.ls z.from h n) }
+    levels_none h n = record { feeds = λ trace xs k. let z = still.still xs k in absurd (not_none z.ls z.from h n) }
 
-    pub levels-end : length text ≤ at → FeedsLevels text from LevelFeed.Done
-    unfolding decodedFrom eventsOf
-    levels-end h = record {
+    pub levels_end : length text ≤ at → FeedsLevels text from LevelFeed.Done
+    unfolding decoded_from events_of
+    levels_end h = record {
       feeds = λ trace xs k.
           let z = still.still xs k in
-          subst (Gives text trace (levelFeed LevelFeed.Done)) (sym (z.is ∙ ap (decodedFrom s a) (at-end some_level z.ls z.from h))) done;
+          subst (Gives text trace (level_feed LevelFeed.Done)) (sym (z.is ∙ ap (decoded_from s a) (at_end some_level z.ls z.from h))) done;
     }
 
-    module _ {l : Level} {p : ℕ} (g : Got spelledLevel LevelOk text at l p) {r : LevelFeed} {t : Turn} (turn : t ≡ turn_of s a l) (give : r ≡ giveBy p l t.bits t.out) where
-      here : (xs : List Record) → LevelsLeft text from xs → LevelsLeft text (behindOf p l t.bits t.out) xs
-      unfolding decodedFrom eventsOf levels
+    module _ {l : Level} {p : ℕ} (g : Got spelled_level LevelOk text at l p) {r : LevelFeed} {t : Turn} (turn : t ≡ turn_of s a l) (give : r ≡ give_by p l t.bits t.out) where
+      here : (xs : List Record) → LevelsLeft text from xs → LevelsLeft text (behind_of p l t.bits t.out) xs
+      unfolding decoded_from events_of levels
       here xs k =
           let z = still.still xs k in
           let w = took some_level z.ls z.from g in
-          subst (λ (u : Turn). LevelsLeft text (behindOf p l u.bits u.out) xs) (sym turn)
-          (record { ls = w.0; from = w.1; is = z.is ∙ ap (decodedFrom s a) w.2 })
+          subst (λ (u : Turn). LevelsLeft text (behind_of p l u.bits u.out) xs) (sym turn)
+          (record { ls = w.0; from = w.1; is = z.is ∙ ap (decoded_from s a) w.2 })
 
-      pub levels-found : {x : Record} {q : Behind} → r ≡ LevelFeed.Next x q → FeedsLevels text from (LevelFeed.Next x q)
-      levels-found {x} {q} h = record { feeds = λ trace xs k. given text p l t.bits t.out x q trace xs (sym give ∙ h) (here xs k) }
+      pub levels_found : {x : Record} {q : Behind} → r ≡ LevelFeed.Next x q → FeedsLevels text from (LevelFeed.Next x q)
+      levels_found {x} {q} h = record { feeds = λ trace xs k. given text p l t.bits t.out x q trace xs (sym give ∙ h) (here xs k) }
 
-      pub levels-on : r ≡ LevelFeed.Done → Still text from p l t.bits
-      levels-on h = record { still = λ xs k. nothing-more text p l t.bits t.out xs (sym give ∙ h) (here xs k) }
+      pub levels_on : r ≡ LevelFeed.Done → Still text from p l t.bits
+      levels_on h = record { still = λ xs k. nothing_more text p l t.bits t.out xs (sym give ∙ h) (here xs k) }
 
 -- ---- the logger's trace
 part_in : (w : Part) (r : Record) (rs : List Record) → is_of w r.event ≡ true → part_of w (r ∷ rs) ≡ r ∷ part_of w rs
@@ -110,48 +110,48 @@ pub record StillTrace (text : List ℕ) (w : Part) (from at : ℕ) : Type 0 wher
   pub still : (xs : List Record) → TraceLeft text w from xs → TraceLeft text w at xs
 
 module _ {text : List ℕ} {w : Part} {from : ℕ} where
-  pub trace-begin : StillTrace text w from from
-  trace-begin = record { still = λ xs k. k }
+  pub trace_begin : StillTrace text w from from
+  trace_begin = record { still = λ xs k. k }
 
   module _ {at : ℕ} (s : StillTrace text w from at) where
-    pub trace-pass : {letter to : ℕ} → letter ≡ letterOf w → Passes text letter at to → StillTrace text w from to
-    trace-pass e p = record { still = λ xs k. p.passes w (sym e) xs (s.still xs k) }
+    pub trace_pass : {letter to : ℕ} → letter ≡ letter_of w → Passes text letter at to → StillTrace text w from to
+    trace_pass e p = record { still = λ xs k. p.passes w (sym e) xs (s.still xs k) }
 
-    pub trace-none : at < length text → ((r : Record) → RecordOk r → Stands text at (spelled r) → ⊥) → FeedsTrace text w from TraceFeed.Done
+    pub trace_none : at < length text → ((r : Record) → RecordOk r → Stands text at (spelled r) → ⊥) → FeedsTrace text w from TraceFeed.Done
     unfolding records
-    trace-none h n = record { feeds = λ levels xs k. let z = s.still xs k in absurd (not_none z.rs z.from h n) }
+    trace_none h n = record { feeds = λ levels xs k. let z = s.still xs k in absurd (not_none z.rs z.from h n) }
 
-    pub trace-end : length text ≤ at → FeedsTrace text w from TraceFeed.Done
+    pub trace_end : length text ≤ at → FeedsTrace text w from TraceFeed.Done
     unfolding filter
-    trace-end h = record {
-      feeds = λ levels xs k. let z = s.still xs k in subst (Gives levels text (traceFeed w TraceFeed.Done)) (sym (z.is ∙ ap (part_of w) (at-end some-record z.rs z.from h))) done;
+    trace_end h = record {
+      feeds = λ levels xs k. let z = s.still xs k in subst (Gives levels text (trace_feed w TraceFeed.Done)) (sym (z.is ∙ ap (part_of w) (at_end some_record z.rs z.from h))) done;
     }
 
     module _ {r : Record} {p : ℕ} (g : Got spelled RecordOk text at r p) where
-      pub trace-found : is_of w r.event ≡ true → FeedsTrace text w from (TraceFeed.Next r p)
+      pub trace_found : is_of w r.event ≡ true → FeedsTrace text w from (TraceFeed.Next r p)
       unfolding PlaceLeft records
-      trace-found e = record {
+      trace_found e = record {
         feeds = λ levels xs k.
             let z = s.still xs k in
-            let t = took some-record z.rs z.from g in
-            subst (Gives levels text (traceFeed w (TraceFeed.Next r p))) (sym (z.is ∙ ap (part_of w) t.2 ∙ part_in w r t.0 e))
-            (next r (inTrace w p) (part_of w t.0) (record { rs = t.0; from = t.1; is = refl }));
+            let t = took some_record z.rs z.from g in
+            subst (Gives levels text (trace_feed w (TraceFeed.Next r p))) (sym (z.is ∙ ap (part_of w) t.2 ∙ part_in w r t.0 e))
+            (next r (in_trace w p) (part_of w t.0) (record { rs = t.0; from = t.1; is = refl }));
       }
 
-      pub trace-on : is_of w r.event ≡ false → StillTrace text w from p
+      pub trace_on : is_of w r.event ≡ false → StillTrace text w from p
       unfolding records
-      trace-on e = record {
+      trace_on e = record {
         still = λ xs k.
             let z = s.still xs k in
-            let t = took some-record z.rs z.from g in
+            let t = took some_record z.rs z.from g in
             record { rs = t.0; from = t.1; is = z.is ∙ ap (part_of w) t.2 ∙ part_out w r t.0 e };
       }
 
 -- ---- either
-pub feed-levels : {levels trace : List ℕ} {p : Behind} {r : LevelFeed} → FeedsLevels levels p r → Feeds levels trace (inLevels p) (levelFeed r)
+pub feed_levels : {levels trace : List ℕ} {p : Behind} {r : LevelFeed} → FeedsLevels levels p r → Feeds levels trace (in_levels p) (level_feed r)
 unfolding PlaceLeft
-feed-levels {trace = trace} f = record { feeds = f.feeds trace }
+feed_levels {trace = trace} f = record { feeds = f.feeds trace }
 
-pub feed-trace : {levels trace : List ℕ} {w : Part} {at : ℕ} {r : TraceFeed} → FeedsTrace trace w at r → Feeds levels trace (inTrace w at) (traceFeed w r)
+pub feed_trace : {levels trace : List ℕ} {w : Part} {at : ℕ} {r : TraceFeed} → FeedsTrace trace w at r → Feeds levels trace (in_trace w at) (trace_feed w r)
 unfolding PlaceLeft
-feed-trace {levels} f = record { feeds = f.feeds levels }
+feed_trace {levels} f = record { feeds = f.feeds levels }

@@ -5,8 +5,8 @@ use Rattle.level.specs.declared.Level.{Level}
 use Rattle.decode.specs.declared.Out.{Out}
 use Rattle.decode.specs.declared.Out.TheVariants.{Nothing, One, Two}
 use Rattle.decode.specs.declared.bits.Bits.{Bits}
-use Rattle.decode.specs.Bits.{eventsOf}
-use Rattle.decode.specs.Decoded.{recordAt, recordsAt, decodedFrom}
+use Rattle.decode.specs.Bits.{events_of}
+use Rattle.decode.specs.Decoded.{record_at, records_at, decoded_from}
 use Rattle.capture.specs.declared.Part.{Part}
 use Rattle.capture.specs.declared.Part.TheVariants.{FlashEnds, EepromEnds, Lines}
 use Rattle.capture.specs.Taken.{part_of}
@@ -15,23 +15,23 @@ use Rattle.weave.specs.declared.feed.Behind.{Behind}
 use Rattle.weave.specs.declared.feed.LevelFeed.{LevelFeed}
 use Rattle.weave.specs.declared.feed.TraceFeed.{TraceFeed}
 
-abbrev pub behindOf : ℕ → Level → Bits → Out → Behind
-behindOf at l s o = record { at = at; last = l; bits = s; more = o }
+abbrev pub behind_of : ℕ → Level → Bits → Out → Behind
+behind_of at l s o = record { at = at; last = l; bits = s; more = o }
 
 -- what the line l still gives
-abbrev pub giveBy : ℕ → Level → Bits → Out → LevelFeed
-giveBy at l s Nothing = LevelFeed.Done
-giveBy at l s (One e) = LevelFeed.Next (recordAt l.stamp e) (behindOf at l s Nothing)
-giveBy at l s (Two d e) = LevelFeed.Next (recordAt l.stamp d) (behindOf at l s (One e))
+abbrev pub give_by : ℕ → Level → Bits → Out → LevelFeed
+give_by at l s Nothing = LevelFeed.Done
+give_by at l s (One e) = LevelFeed.Next (record_at l.stamp e) (behind_of at l s Nothing)
+give_by at l s (Two d e) = LevelFeed.Next (record_at l.stamp d) (behind_of at l s (One e))
 
-abbrev pub giveOf : Behind → LevelFeed
-giveOf p = giveBy p.at p.last p.bits p.more
+abbrev pub give_of : Behind → LevelFeed
+give_of p = give_by p.at p.last p.bits p.more
 
 -- the records xs are still to come: the line's own, and those of the lines behind it
 pub record LevelsLeft (text : List ℕ) (p : Behind) (xs : List Record) : Type 0 where
   pub ls : List Level
   pub from : From levels text p.at ls
-  pub is : xs ≡ recordsAt p.last.stamp (eventsOf p.more) ++ decodedFrom p.bits p.last ls
+  pub is : xs ≡ records_at p.last.stamp (events_of p.more) ++ decoded_from p.bits p.last ls
 
 -- of the records from the place on, those of the part
 pub record TraceLeft (text : List ℕ) (part : Part) (at : ℕ) (xs : List Record) : Type 0 where
@@ -40,35 +40,35 @@ pub record TraceLeft (text : List ℕ) (part : Part) (at : ℕ) (xs : List Recor
   pub is : xs ≡ part_of part rs
 
 -- the letter of a part's channel
-abbrev pub letterOf : Part → ℕ
-letterOf FlashEnds = 70
-letterOf EepromEnds = 69
-letterOf Lines = 76
+abbrev pub letter_of : Part → ℕ
+letter_of FlashEnds = 70
+letter_of EepromEnds = 69
+letter_of Lines = 76
 
 -- between the two places there is no record of a part with the letter
 pub record Passes (text : List ℕ) (letter from at : ℕ) : Type 0 where
-  pub passes : (part : Part) → letterOf part ≡ letter → (xs : List Record) → TraceLeft text part from xs → TraceLeft text part at xs
+  pub passes : (part : Part) → letter_of part ≡ letter → (xs : List Record) → TraceLeft text part from xs → TraceLeft text part at xs
 
 -- ---- a feed of either text: nothing is left, or the next record and the place from which it goes on
 pub data Place : Type 0 where
-  inLevels : Behind → Place
-  inTrace : Part → ℕ → Place
+  in_levels : Behind → Place
+  in_trace : Part → ℕ → Place
 
 pub data Feed : Type 0 where
   over : Feed
   ahead : Record → Place → Feed
 
-abbrev pub levelFeed : LevelFeed → Feed
-levelFeed LevelFeed.Done = over
-levelFeed (LevelFeed.Next r p) = ahead r (inLevels p)
+abbrev pub level_feed : LevelFeed → Feed
+level_feed LevelFeed.Done = over
+level_feed (LevelFeed.Next r p) = ahead r (in_levels p)
 
-abbrev pub traceFeed : Part → TraceFeed → Feed
-traceFeed part TraceFeed.Done = over
-traceFeed part (TraceFeed.Next r at) = ahead r (inTrace part at)
+abbrev pub trace_feed : Part → TraceFeed → Feed
+trace_feed part TraceFeed.Done = over
+trace_feed part (TraceFeed.Next r at) = ahead r (in_trace part at)
 
 unfoldable pub PlaceLeft : List ℕ → List ℕ → Place → List Record → Type 0
-PlaceLeft levels trace (inLevels p) xs = LevelsLeft levels p xs
-PlaceLeft levels trace (inTrace part at) xs = TraceLeft trace part at xs
+PlaceLeft levels trace (in_levels p) xs = LevelsLeft levels p xs
+PlaceLeft levels trace (in_trace part at) xs = TraceLeft trace part at xs
 
 -- a feed that still has the records xs to give
 pub data Gives (levels trace : List ℕ) : Feed → List Record → Type 0 where
@@ -77,10 +77,10 @@ pub data Gives (levels trace : List ℕ) : Feed → List Record → Type 0 where
 
 -- the feed r gives what is still to come at a place
 pub record FeedsLevels (levels : List ℕ) (p : Behind) (r : LevelFeed) : Type 0 where
-  pub feeds : (trace : List ℕ) (xs : List Record) → LevelsLeft levels p xs → Gives levels trace (levelFeed r) xs
+  pub feeds : (trace : List ℕ) (xs : List Record) → LevelsLeft levels p xs → Gives levels trace (level_feed r) xs
 
 pub record FeedsTrace (trace : List ℕ) (part : Part) (at : ℕ) (r : TraceFeed) : Type 0 where
-  pub feeds : (levels : List ℕ) (xs : List Record) → TraceLeft trace part at xs → Gives levels trace (traceFeed part r) xs
+  pub feeds : (levels : List ℕ) (xs : List Record) → TraceLeft trace part at xs → Gives levels trace (trace_feed part r) xs
 
 pub record Feeds (levels trace : List ℕ) (p : Place) (r : Feed) : Type 0 where
   pub feeds : (xs : List Record) → PlaceLeft levels trace p xs → Gives levels trace r xs

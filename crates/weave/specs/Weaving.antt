@@ -4,10 +4,10 @@ use Rattle.law.specs.Words.{All, Rising}
 use Rattle.law.specs.Order.{InOrder}
 use Rattle.record.specs.declared.Board.{Board}
 use Rattle.record.specs.declared.Record.{Record}
-use Rattle.line.specs.Boards.{spelledBoard}
+use Rattle.line.specs.Boards.{spelled_board}
 use Rattle.text.specs.Texts.{Readable}
 use Rattle.level.specs.declared.Level.{Level}
-use Rattle.level.specs.Spelled.{spelledLevel}
+use Rattle.level.specs.Spelled.{spelled_level}
 use Rattle.capture.specs.declared.Part.TheVariants.{FlashEnds, EepromEnds, Lines}
 use Rattle.capture.specs.Taken.{taken_of}
 use Rattle.capture.specs.Captures.{Captures}
@@ -15,25 +15,25 @@ use Rattle.capture.specs.Merge.{number_of, Merged}
 use Rattle.weave.specs.declared.Weave.{Weave}
 use Rattle.weave.specs.declared.Head.{Head}
 use Rattle.weave.specs.declared.Woven.{Woven}
-use Rattle.weave.specs.Feeding.{Feed, over, ahead, levelFeed, traceFeed, Gives}
+use Rattle.weave.specs.Feeding.{Feed, over, ahead, level_feed, trace_feed, Gives}
 
 -- above the number of every record: 3 · 2^32
 abbrev pub above : ℕ
 above = 12884901888
 
-abbrev pub headNumber : Feed → ℕ
-headNumber over = above
-headNumber (ahead r p) = number_of r
+abbrev pub head_number : Feed → ℕ
+head_number over = above
+head_number (ahead r p) = number_of r
 
 -- all feeds
-abbrev pub feedsOf : Weave → List Feed
-feedsOf w =
-    levelFeed w.flash ∷ levelFeed w.eeprom ∷ traceFeed FlashEnds w.flash_ends ∷ traceFeed EepromEnds w.eeprom_ends ∷ traceFeed Lines w.lines ∷ []
+abbrev pub feeds_of : Weave → List Feed
+feeds_of w =
+    level_feed w.flash ∷ level_feed w.eeprom ∷ trace_feed FlashEnds w.flash_ends ∷ trace_feed EepromEnds w.eeprom_ends ∷ trace_feed Lines w.lines ∷ []
 
 -- the numbers of their heads
-unfoldable pub numbersOf : List Feed → List ℕ
-numbersOf [] = []
-numbersOf (f ∷ fs) = headNumber f ∷ numbersOf fs
+unfoldable pub numbers_of : List Feed → List ℕ
+numbers_of [] = []
+numbers_of (f ∷ fs) = head_number f ∷ numbers_of fs
 
 abbrev pub number_at : List ℕ → ℕ → ℕ
 number_at ns j = get_or ns j 0
@@ -58,8 +58,8 @@ Each levels trace (f ∷ fs) (xs ∷ xss) = Gives levels trace f xs × Rising nu
 -- the records m are left: those of all feeds, in order; the numbers are those of the feeds' heads
 pub record Left (levels trace : List ℕ) (w : Weave) (m : List Record) : Type 0 where
   pub parts : List (List Record)
-  pub numbers : w.numbers ≡ numbersOf (feedsOf w)
-  pub each : Each levels trace (feedsOf w) parts
+  pub numbers : w.numbers ≡ numbers_of (feeds_of w)
+  pub each : Each levels trace (feeds_of w) parts
   pub ordered : InOrder number_of (joined parts) m
   pub below : All (λ (r : Record). number_of r < above) m
 
@@ -77,5 +77,5 @@ pub record Takes (levels trace : List ℕ) (w : Weave) (i : ℕ) (r : Woven) : T
 
 -- at the start all merged records are left
 pub record Starts (levels trace : List ℕ) (a : Level) (at first : ℕ) (w : Weave) : Type 0 where
-  pub starts : (b : Board) (rs : List Record) (ls : List Level) (m : List Record) → Readable trace b rs → first ≡ length (spelledBoard b) →
-      Captures (taken_of rs) levels (a ∷ ls) → at ≡ length (spelledLevel a) → Merged (a ∷ ls) rs m → Left levels trace w m
+  pub starts : (b : Board) (rs : List Record) (ls : List Level) (m : List Record) → Readable trace b rs → first ≡ length (spelled_board b) →
+      Captures (taken_of rs) levels (a ∷ ls) → at ≡ length (spelled_level a) → Merged (a ∷ ls) rs m → Left levels trace w m

@@ -1,7 +1,7 @@
 // A feed: the records of one text and one channel, one after another. It holds its next record, and the place from which it goes on.
 // The feeds of the two texts are of two types, since one of the trace is much smaller: each record copies all feeds.
 ghost use Rattle.std.specs.Prelude.{◌≡◌, ◌≤◌};
-ghost use Rattle.weave.specs.Feeding.{giveOf, letterOf, Passes, FeedsLevels, FeedsTrace};
+ghost use Rattle.weave.specs.Feeding.{give_of, letter_of, Passes, FeedsLevels, FeedsTrace};
 
 use capture::Part;
 use decode::{Bits, Out};
@@ -35,7 +35,7 @@ pub enum TraceFeed {
 
 // What a line of the capture still gives.
 fn give(p: Behind) -> LevelFeed
-    ensures { result ≡ giveOf p }
+    ensures { result ≡ give_of p }
 {
     let last = p.last;
     let bits = p.bits;
@@ -104,7 +104,7 @@ pub fn feed_levels(levels: &[u8], from: Behind) -> LevelFeed
 
 // The letter of a part's channel.
 fn letter_of(part: Part) -> u8
-    ensures { result ≡ letterOf part }
+    ensures { result ≡ letter_of part }
 {
     match part {
         Part::FlashEnds => b'F',

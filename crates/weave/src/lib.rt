@@ -3,8 +3,8 @@ ghost use Rattle.std.specs.Prelude.{◌≡◌, ◌<◌};
 ghost use Rattle.decode.specs.declared.Out.TheVariants.{Nothing};
 ghost use Rattle.capture.specs.declared.Part.{Part};
 ghost use Rattle.capture.specs.Merge.{number_of};
-ghost use Rattle.weave.specs.Feeding.{behindOf, levelFeed, traceFeed, FeedsLevels};
-ghost use Rattle.weave.specs.Weaving.{headNumber, Least, Weaves, Starts};
+ghost use Rattle.weave.specs.Feeding.{behind_of, level_feed, trace_feed, FeedsLevels};
+ghost use Rattle.weave.specs.Weaving.{head_number, Least, Weaves, Starts};
 
 use capture::Part;
 use decode::{Bits, Out};
@@ -63,7 +63,7 @@ fn number_of(r: Record) -> u64
 
 // The number of a feed's head; a feed that has none is above all records.
 fn level_number(f: LevelFeed) -> u64
-    ensures { result ≡ headNumber (levelFeed f) }
+    ensures { result ≡ head_number (level_feed f) }
 {
     match f {
         LevelFeed::Done => ABOVE,
@@ -72,7 +72,7 @@ fn level_number(f: LevelFeed) -> u64
 }
 
 fn trace_number(f: TraceFeed) -> u64
-    ensures { (part : Part) → result ≡ headNumber (traceFeed part f) }
+    ensures { (part : Part) → result ≡ head_number (trace_feed part f) }
 {
     match f {
         TraceFeed::Done => ABOVE,
@@ -118,7 +118,7 @@ pub fn next_woven(levels: &[u8], trace: &[u8], w: Weave) -> Woven
 
 // A feed of the capture, behind its first line.
 fn of_levels(levels: &[u8], a: Level, at: usize, bits: Bits) -> LevelFeed
-    ensures { FeedsLevels levels.now (behindOf at a bits Nothing) result }
+    ensures { FeedsLevels levels.now (behind_of at a bits Nothing) result }
 {
     let behind = Behind {
         at: at,

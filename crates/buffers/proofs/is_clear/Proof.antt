@@ -6,7 +6,7 @@ use native.Mathlib.Omega.{arith}
 use lib.ListN.{length, drop}
 use Rattle.law.specs.Words.{pick}
 use Rattle.buffers.specs.Buffers.{clear}
-use Rattle.buffers.proofs.Clear.{clear-on, clear-end}
+use Rattle.buffers.proofs.Clear.{clear_on, clear_end}
 use Rattle.buffers.proofs.is_clear.Statement.{statement}
 use Rattle.buffers.proofs.is_clear.Tie as tie
 
@@ -38,13 +38,13 @@ loop-again : tie.Need-loop-preserved invariant-loop decreases-loop
 loop-again c =
     let a = c.before.before.before.before.before.before.before.args in
     let l = c.before.before.before.before.loop in
-    (omega arith, clear-on a.values.now a.masks.now l.i c.before.before.before.before.before.before.before.requires l.ok _ c.before.before.before.loop-test.true c.both.ensures ∙ l.invariant.1)
+    (omega arith, clear_on a.values.now a.masks.now l.i c.before.before.before.before.before.before.before.requires l.ok _ c.before.before.before.loop-test.true c.both.ensures ∙ l.invariant.1)
 
 returns : tie.Need-returns invariant-loop decreases-loop
 returns c =
     let a = c.before.before.before.before.args in
     let l = c.before.loop in
-    sym (clear-end a.values.now a.masks.now l.i c.before.before.before.before.requires l.ok c.loop-test.false) ∙ l.invariant.1
+    sym (clear_end a.values.now a.masks.now l.i c.before.before.before.before.requires l.ok c.loop-test.false) ∙ l.invariant.1
 
 pub is-clear-spec : {M : Type 1} → statement M
 is-clear-spec =

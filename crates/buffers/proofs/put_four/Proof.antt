@@ -1,7 +1,7 @@
 -- `buffers::put_four`: four stores are a run of stores. Assumes nothing.
 use native.Mathlib.Omega.{arith}
 use lib.ListN.{length-set}
-use Rattle.buffers.proofs.Stores.{four-set}
+use Rattle.buffers.proofs.Stores.{four_set}
 use borrow.Author.Rules.{rules}
 use Rattle.buffers.proofs.put_four.Statement.{statement}
 use Rattle.buffers.proofs.put_four.Tie as tie
@@ -31,7 +31,7 @@ same_length : tie.Need-same-length
 same_length c = search rules
 
 returns : tie.Need-returns
-returns c = four-set c.args.s.now c.args.at c.args.a c.args.b c.args.c c.args.d
+returns c = four_set c.args.s.now c.args.at c.args.a c.args.b c.args.c c.args.d
 
 pub put-four-spec : {M : Type 1} → statement M
 put-four-spec =

@@ -5,14 +5,14 @@ use Prim.Native.Nat.{ℕ}
 use borrow.Author.Tests.{ne_eqb}
 use lib.Seq.{sets}
 use Rattle.record.specs.Word.{word}
-use Rattle.buffers.specs.Buffers.{planResultAfter}
-use Rattle.buffers.proofs.Result.{two-words}
+use Rattle.buffers.specs.Buffers.{plan_result_after}
+use Rattle.buffers.proofs.Result.{two_words}
 use borrow.Author.Rules.{rules}
 use Rattle.buffers.proofs.put_plan_result.Statement.{statement}
 use Rattle.buffers.proofs.put_plan_result.Tie as tie
 
 returns : tie.Need-returns
-unfolding planResultAfter
+unfolding plan_result_after
 returns c = simp (ne_eqb _ _ c.if1.true)
 
 put-word-requires : tie.Need-put-word-requires
@@ -29,7 +29,7 @@ returns-2 c =
     let a = c.before.before.before.before.before.before.before.before.before.before.args in
     c.before.before.put-word2.ensures
     ∙ ap (λ (l : List ℕ). sets l 4 (word a.number)) c.before.before.before.before.before.before.put_word.ensures
-    ∙ two-words a.answer a.number a.result.now c.before.before.before.before.before.before.before.before.if1.false
+    ∙ two_words a.answer a.number a.result.now c.before.before.before.before.before.before.before.before.if1.false
 
 pub put-plan-result-spec : {M : Type 1} → statement M
 put-plan-result-spec = tie.close (tie.spec returns put-word-requires put-word-requires-2 same_length returns-2)

@@ -1,17 +1,17 @@
 -- `buffers::put_reply`: the reply's four bytes at its place. Assumes nothing.
 use borrow.Author.Tests.{le-ltb, lt-ltb, ne_eqb}
-use Rattle.buffers.specs.Put.{repliesWith}
-use Rattle.buffers.proofs.Replies.{reply-stored}
+use Rattle.buffers.specs.Put.{replies_with}
+use Rattle.buffers.proofs.Replies.{reply_stored}
 use borrow.Author.Rules.{rules}
 use Rattle.buffers.proofs.put_reply.Statement.{statement}
 use Rattle.buffers.proofs.put_reply.Tie as tie
 
 returns : tie.Need-returns
-unfolding repliesWith
+unfolding replies_with
 returns c = simp (le-ltb _ _ c.if1.true)
 
 returns-2 : tie.Need-returns-2
-unfolding repliesWith
+unfolding replies_with
 returns-2 c = simp (lt-ltb _ _ c.before.if1.false, ne_eqb _ _ c.if2.true)
 
 mul-put-four : tie.Need-overflow-mul-put-four
@@ -38,7 +38,7 @@ same_length c = search rules
 returns-3 : tie.Need-returns-3
 returns-3 c =
     let a = c.before.before.before.before.before.before.before.before.before.before.before.args in
-    reply-stored a.number _ _ _ _ a.reply a.m a.replies.now _ c.before.before.before.before.before.before.before.before.before.if1.false c.before.before.before.before.before.before.before.before.if2.false c.before.before.before.before.before.before.reply-kind.ensures c.before.before.before.before.before.reply-value.ensures
+    reply_stored a.number _ _ _ _ a.reply a.m a.replies.now _ c.before.before.before.before.before.before.before.before.before.if1.false c.before.before.before.before.before.before.before.before.if2.false c.before.before.before.before.before.before.reply_kind_lem.ensures c.before.before.before.before.before.reply-value.ensures
     c.before.before.before.before.reply-mask.ensures c.before.before.before.match-number.ensures c.before.before.put_four.ensures
 
 pub put-reply-spec : {M : Type 1} → statement M

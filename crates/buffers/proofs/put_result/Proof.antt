@@ -5,14 +5,14 @@ use Prim.Native.Nat.{ℕ}
 use borrow.Author.Tests.{ne_eqb}
 use lib.Seq.{sets}
 use Rattle.record.specs.Word.{word}
-use Rattle.buffers.specs.Buffers.{resultAfter}
-use Rattle.buffers.proofs.Result.{four-words}
+use Rattle.buffers.specs.Buffers.{result_after}
+use Rattle.buffers.proofs.Result.{four_words}
 use borrow.Author.Rules.{rules}
 use Rattle.buffers.proofs.put_result.Statement.{statement}
 use Rattle.buffers.proofs.put_result.Tie as tie
 
 returns : tie.Need-returns
-unfolding resultAfter
+unfolding result_after
 returns c = simp (ne_eqb _ _ c.if1.true)
 
 put-word-requires : tie.Need-put-word-requires
@@ -37,7 +37,7 @@ returns-2 c =
     ∙ ap (λ (l : List ℕ). sets l 12 (word a.field)) c.before.before.before.before.before.before.put-word3.ensures
     ∙ ap (λ (l : List ℕ). sets (sets l 8 (word a.count)) 12 (word a.field)) c.before.before.before.before.before.before.before.before.before.before.put-word2.ensures
     ∙ ap (λ (l : List ℕ). sets (sets (sets l 4 (word a.number)) 8 (word a.count)) 12 (word a.field)) c.before.before.before.before.before.before.before.before.before.before.before.before.before.before.put_word.ensures
-    ∙ four-words a.answer a.number a.count a.field a.result.now c.before.before.before.before.before.before.before.before.before.before.before.before.before.before.before.before.if1.false
+    ∙ four_words a.answer a.number a.count a.field a.result.now c.before.before.before.before.before.before.before.before.before.before.before.before.before.before.before.before.if1.false
 
 pub put-result-spec : {M : Type 1} → statement M
 put-result-spec =

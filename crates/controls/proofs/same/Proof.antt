@@ -1,5 +1,5 @@
 use mathlib.Core.Path.{ap}
-use Rattle.law.specs.Deciding.{decides-as, refuses, passed}
+use Rattle.law.specs.Deciding.{decides_as, refuses, passed}
 use Rattle.controls.specs.declared.Controls.{Controls}
 use Rattle.controls.proofs.Equal.{all_same}
 use borrow.Author.Rules.{rules}
@@ -23,7 +23,7 @@ same-lines-requires c κs = search rules
 
 returns-3 : tie.Need-returns-3
 returns-3 c =
-    decides-as c.same_lines.ensures
+    decides_as c.same_lines.ensures
     (all_same _ _ (passed c.before.before.before.before.before.before.before.before.same.ensures c.before.before.before.before.before.before.before.if1.false) (passed c.before.before.before.before.same2.ensures c.before.before.before.if2.false))
     (ap (λ (x : Controls). x.lines))
 

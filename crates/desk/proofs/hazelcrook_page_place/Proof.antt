@@ -9,7 +9,7 @@ view-place-requires : tie.Need-view-place-requires
 view-place-requires c κs = search rules
 
 returns : tie.Need-returns
-returns c = simp (c.before.chip-of.ensures, c.view-place.ensures)
+returns c = simp (c.before.chip_of_lem.ensures, c.view-place.ensures)
 
 pub hazelcrook-page-place-spec : {M : Type 1} → statement M
 hazelcrook-page-place-spec = tie.close (tie.spec chip-of-requires view-place-requires returns)

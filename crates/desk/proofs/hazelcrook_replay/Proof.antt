@@ -1,5 +1,5 @@
-use Rattle.walk.proofs.Ends.{replays-unfit, replays-long, replays-bad, replays-played}
-use Rattle.buffers.proofs.Fit.{fit-says}
+use Rattle.walk.proofs.Ends.{replays_unfit, replays_long, replays_bad, replays_played}
+use Rattle.buffers.proofs.Fit.{fit_says}
 use Rattle.law.specs.Choice.{via}
 use borrow.Author.Tests.{not-true, not-false, ltb-false}
 use borrow.Author.Rules.{rules}
@@ -34,7 +34,7 @@ same-length-7 : tie.Need-same-length-7
 same-length-7 c = search rules
 
 returns : tie.Need-returns
-returns c = let r = c.before.before.refuse.ensures in replays-unfit _ _ _ _ (via c.before.before.before.before.before.fits_all.ensures (not-true _ c.before.before.before.before.if1.true)) r.0 r.1
+returns c = let r = c.before.before.refuse.ensures in replays_unfit _ _ _ _ (via c.before.before.before.before.before.fits_all.ensures (not-true _ c.before.before.before.before.if1.true)) r.0 r.1
 
 too-long-requires : tie.Need-too-long-requires
 too-long-requires c κs = search rules
@@ -64,7 +64,7 @@ same-length-14 : tie.Need-same-length-14
 same-length-14 c = search rules
 
 returns-2 : tie.Need-returns-2
-returns-2 c = let r = c.before.before.refuse2.ensures in replays-long _ _ (via c.before.before.before.before.before.before.before.fits_all.ensures (not-false _ c.before.before.before.before.before.before.if1.false)) _ _ (via c.before.before.before.before.before.too_long.ensures c.before.before.before.before.if2.true) r.0 r.1
+returns-2 c = let r = c.before.before.refuse2.ensures in replays_long _ _ (via c.before.before.before.before.before.before.before.fits_all.ensures (not-false _ c.before.before.before.before.before.before.if1.false)) _ _ (via c.before.before.before.before.before.too_long.ensures c.before.before.before.before.if2.true) r.0 r.1
 
 check-text-requires : tie.Need-check-text-requires
 check-text-requires c κs = search rules
@@ -73,7 +73,7 @@ enum-known-checked : tie.Need-enum-known-checked
 enum-known-checked c = search rules
 
 replay-requires : tie.Need-replay-requires
-replay-requires c κs = let f = fit-says _ (via c.before.before.before.before.before.before.before.before.before.before.before.before.before.before.fits_all.ensures (not-false _ c.before.before.before.before.before.before.before.before.before.before.before.before.before.if1.false)) in (ltb-false _ _ (via c.before.before.before.before.before.before.before.before.before.before.before.before.too_long.ensures c.before.before.before.before.before.before.before.before.before.before.before.if2.false), f.times_long, f.replies-long, f.result-long)
+replay-requires c κs = let f = fit_says _ (via c.before.before.before.before.before.before.before.before.before.before.before.before.before.before.fits_all.ensures (not-false _ c.before.before.before.before.before.before.before.before.before.before.before.before.before.if1.false)) in (ltb-false _ _ (via c.before.before.before.before.before.before.before.before.before.before.before.before.too_long.ensures c.before.before.before.before.before.before.before.before.before.before.before.if2.false), f.times_long, f.replies_long, f.result_long)
 
 enum-known-checked-2 : tie.Need-enum-known-checked-2
 enum-known-checked-2 c = search rules
@@ -103,7 +103,7 @@ same-length-21 : tie.Need-same-length-21
 same-length-21 c = search rules
 
 returns-3 : tie.Need-returns-3
-returns-3 c = replays-played _ _ (via c.before.before.before.before.before.before.before.before.before.before.before.before.before.before.before.before.before.before.before.before.before.before.before.before.before.before.before.before.before.fits_all.ensures (not-false _ c.before.before.before.before.before.before.before.before.before.before.before.before.before.before.before.before.before.before.before.before.before.before.before.before.before.before.before.before.if1.false)) (via c.before.before.before.before.before.before.before.before.before.before.before.before.before.before.before.before.before.before.before.before.before.before.before.before.before.before.before.too_long.ensures c.before.before.before.before.before.before.before.before.before.before.before.before.before.before.before.before.before.before.before.before.before.before.before.before.before.before.if2.false) _ c.before.before.before.before.before.before.before.before.before.before.before.before.before.before.before.before.before.before.before.before.before.before.before.before.before.check-text.ensures _ _ c.before.before.before.before.before.before.before.before.before.before.before.before.before.before.before.before.before.before.before.before.before.before.before.checked.given.1 _ c.before.before.before.before.before.before.before.before.before.before.before.before.before.before.replay.ensures
+returns-3 c = replays_played _ _ (via c.before.before.before.before.before.before.before.before.before.before.before.before.before.before.before.before.before.before.before.before.before.before.before.before.before.before.before.before.before.fits_all.ensures (not-false _ c.before.before.before.before.before.before.before.before.before.before.before.before.before.before.before.before.before.before.before.before.before.before.before.before.before.before.before.before.if1.false)) (via c.before.before.before.before.before.before.before.before.before.before.before.before.before.before.before.before.before.before.before.before.before.before.before.before.before.before.before.too_long.ensures c.before.before.before.before.before.before.before.before.before.before.before.before.before.before.before.before.before.before.before.before.before.before.before.before.before.before.if2.false) _ c.before.before.before.before.before.before.before.before.before.before.before.before.before.before.before.before.before.before.before.before.before.before.before.before.before.check-text.ensures _ _ c.before.before.before.before.before.before.before.before.before.before.before.before.before.before.before.before.before.before.before.before.before.before.before.checked.given.1 _ c.before.before.before.before.before.before.before.before.before.before.before.before.before.before.replay.ensures
 
 same-length-22 : tie.Need-same-length-22
 same-length-22 c = search rules
@@ -127,7 +127,7 @@ same-length-28 : tie.Need-same-length-28
 same-length-28 c = search rules
 
 returns-4 : tie.Need-returns-4
-returns-4 c = let r = c.before.before.refuse3.ensures in replays-bad _ _ (via c.before.before.before.before.before.before.before.before.before.before.before.fits_all.ensures (not-false _ c.before.before.before.before.before.before.before.before.before.before.if1.false)) (via c.before.before.before.before.before.before.before.before.before.too_long.ensures c.before.before.before.before.before.before.before.before.if2.false) _ c.before.before.before.before.before.before.before.check-text.ensures _ _ _ c.before.before.before.before.before.checked2.given.1 _ _ r.0 r.1
+returns-4 c = let r = c.before.before.refuse3.ensures in replays_bad _ _ (via c.before.before.before.before.before.before.before.before.before.before.before.fits_all.ensures (not-false _ c.before.before.before.before.before.before.before.before.before.before.if1.false)) (via c.before.before.before.before.before.before.before.before.before.too_long.ensures c.before.before.before.before.before.before.before.before.if2.false) _ c.before.before.before.before.before.before.before.check-text.ensures _ _ _ c.before.before.before.before.before.checked2.given.1 _ _ r.0 r.1
 
 pub hazelcrook-replay-spec : {M : Type 1} → statement M
 hazelcrook-replay-spec =

@@ -3,10 +3,10 @@ use native.Mathlib.Omega.{arith}
 use Prim.Native.Nat.{◌+◌, ◌-◌, ◌≤◌}
 use mathlib.Core.Path.{◌≡◌, refl}
 use lib.ListN.{length, take, drop}
-use Rattle.meaning.specs.Channels.{mostInAll}
-use Rattle.image.specs.Images.{imagesOf}
-use Rattle.call.specs.Steps.{deskOf, runDesk}
-use Rattle.call.proofs.Playing.{played-one, round, turned}
+use Rattle.meaning.specs.Channels.{most_in_all}
+use Rattle.image.specs.Images.{images_of}
+use Rattle.call.specs.Steps.{desk_of, run_desk}
+use Rattle.call.proofs.Playing.{played_one, round, turned}
 use Rattle.desk.proofs.play_all.Statement.{statement}
 use Rattle.desk.proofs.play_all.Tie as tie
 
@@ -14,15 +14,15 @@ abbrev invariant-loop : tie.invariant-loop
 invariant-loop board many number count flash₀ flash-mask₀ eeprom₀ eeprom-mask₀ times₀ replies₀ records cur₀ c₀ k₀ flash flash-mask eeprom eeprom-mask times replies cur c k =
     (k ≤ many) × (c ≤ count + k) × (length flash ≡ length flash₀) × (length flash-mask ≡ length flash-mask₀) × (length eeprom ≡ length eeprom₀)
     × (length eeprom-mask ≡ length eeprom-mask₀) × (length times ≡ length times₀) × (length replies ≡ length replies₀)
-    × (runDesk board (drop k (take many records)) (deskOf cur (imagesOf flash flash-mask eeprom eeprom-mask) times replies (number + k) c)
-    ≡ runDesk board (take many records) (deskOf cur₀ (imagesOf flash₀ flash-mask₀ eeprom₀ eeprom-mask₀) times₀ replies₀ number count))
+    × (run_desk board (drop k (take many records)) (desk_of cur (images_of flash flash-mask eeprom eeprom-mask) times replies (number + k) c)
+    ≡ run_desk board (take many records) (desk_of cur₀ (images_of flash₀ flash-mask₀ eeprom₀ eeprom-mask₀) times₀ replies₀ number count))
 
 abbrev decreases-loop : tie.decreases-loop
 decreases-loop board many number count flash₀ flash-mask₀ eeprom₀ eeprom-mask₀ times₀ replies₀ records cur₀ c₀ k₀ flash flash-mask eeprom eeprom-mask times replies cur c k = many - k
 
 -- the array is as long as it is declared
 long : (c : tie.Start invariant-loop decreases-loop) → c.args.many ≤ length c.args.t3
-long c = let l : length c.args.t3 ≡ mostInAll = search rules in omega arith
+long c = let l : length c.args.t3 ≡ most_in_all = search rules in omega arith
 
 loop-holds : tie.Need-loop-init invariant-loop decreases-loop
 loop-holds c = let z : c.before.before.before.before.before.before.args.number + 0 ≡ c.before.before.before.before.before.before.args.number = omega arith in (omega arith, omega arith, refl, refl, refl, refl, refl, refl, rw z refl)
@@ -55,7 +55,7 @@ loop-less : tie.Need-loop-smaller invariant-loop decreases-loop
 loop-less c = omega arith
 
 loop-again : tie.Need-loop-preserved invariant-loop decreases-loop
-loop-again c = let s = c.before.before.before.before.before.before.before.before.before.before.before.before.before.before.before.before.before.before.before.before.before.before.before.before.before.before.before.before.before.before.before.before.args in let l = c.before.before.before.before.before.before.before.before.before.before.before.before.before.before.before.before.before.before.before.before.before.before.before.before.before.loop in let z : s.number + (l.k + 1) ≡ s.number + l.k + 1 = omega arith in (omega arith, omega (arith, c.before.before.before.put-compared.ensures.1), omega arith, omega arith, omega arith, omega arith, omega arith, omega arith, round _ _ _ _ _ _ _ _ (long c.before.before.before.before.before.before.before.before.before.before.before.before.before.before.before.before.before.before.before.before.before.before.before.before.before.before.before.before.before.before.before.before) c.before.before.before.before.before.before.before.before.before.before.before.before.before.before.before.before.before.before.before.before.before.before.before.before.loop-test.true (played-one _ _ _ _ _ _ _ _ _ _ _ _ _ _ _ _ z c.before.before.before.before.before.before.before.before.before.before.before.before.before.before.before.before.before.before.play.ensures c.before.before.before.before.before.before.before.put-times.ensures c.before.before.before.put-compared.ensures.0) l.invariant.8)
+loop-again c = let s = c.before.before.before.before.before.before.before.before.before.before.before.before.before.before.before.before.before.before.before.before.before.before.before.before.before.before.before.before.before.before.before.before.args in let l = c.before.before.before.before.before.before.before.before.before.before.before.before.before.before.before.before.before.before.before.before.before.before.before.before.before.loop in let z : s.number + (l.k + 1) ≡ s.number + l.k + 1 = omega arith in (omega arith, omega (arith, c.before.before.before.put-compared.ensures.1), omega arith, omega arith, omega arith, omega arith, omega arith, omega arith, round _ _ _ _ _ _ _ _ (long c.before.before.before.before.before.before.before.before.before.before.before.before.before.before.before.before.before.before.before.before.before.before.before.before.before.before.before.before.before.before.before.before) c.before.before.before.before.before.before.before.before.before.before.before.before.before.before.before.before.before.before.before.before.before.before.before.before.loop-test.true (played_one _ _ _ _ _ _ _ _ _ _ _ _ _ _ _ _ z c.before.before.before.before.before.before.before.before.before.before.before.before.before.before.before.before.before.before.play.ensures c.before.before.before.before.before.before.before.put-times.ensures c.before.before.before.put-compared.ensures.0) l.invariant.8)
 
 add-t40 : tie.Need-overflow-add-t40 invariant-loop decreases-loop
 add-t40 c = omega arith

@@ -1,4 +1,4 @@
-use Rattle.call.proofs.Playing.{two-most}
+use Rattle.call.proofs.Playing.{two_most}
 use native.Mathlib.Omega.{arith}
 use borrow.Author.Rules.{rules}
 use Rattle.desk.proofs.put_compared.Statement.{statement}
@@ -19,7 +19,7 @@ same_length c = search rules
 returns : tie.Need-returns
 returns c =
     let m = c.before.before.before.before.before.compare.ensures in
-    let l = two-most c.before.before.before.before.before.compare.result in (
+    let l = two_most c.before.before.before.before.before.compare.result in (
       (rw m at c.before.before.before.put-reply.ensures, rw m at c.two.ensures),
       omega (arith, c.two.ensures, l),
     )

@@ -1,4 +1,4 @@
-use Rattle.walk.proofs.Ends.{runs-written}
+use Rattle.walk.proofs.Ends.{runs_written}
 use lib.ListN.{replicate}
 use mathlib.Core.Path.{ap, ◌∙◌}
 use Prim.Native.Nat.{ℕ}
@@ -46,7 +46,7 @@ same-length-7 : tie.Need-same-length-7
 same-length-7 c = search rules
 
 returns : tie.Need-returns
-returns c = let q = c.before.before.before.before.before.before.before.before.before.before.before.before.before.before.before.before.before.before.before.before.before.before.before.before.before.before.before.before.before.before.before.before.before.before.before.before.before.before.before.before.before.requires in runs-written _ _ _ _ _ _ c.before.before.before.before.before.before.before.before.before.before.before.before.before.before.before.before.before.before.run.result.answer _ _ _ _ _ _ _ _ c.before.before.before.before.before.before.before.before.before.before.before.before.before.before.before.before.before.before.run.ensures (c.before.before.before.before.before.before.before.before.before.before.before.before.before.before.before.before.before.before.before.before.before.before.before.before.before.before.before.before.before.before.before.clear-all.ensures ∙ ap (λ (n : ℕ). replicate n 0) q.1) (c.before.before.before.before.before.before.before.before.before.before.before.before.before.before.before.before.before.before.before.before.before.before.before.before.before.before.before.clear-all2.ensures ∙ ap (λ (n : ℕ). replicate n 0) q.2) c.before.before.before.before.before.answer-number.ensures c.before.before.put-result.ensures q.3
+returns c = let q = c.before.before.before.before.before.before.before.before.before.before.before.before.before.before.before.before.before.before.before.before.before.before.before.before.before.before.before.before.before.before.before.before.before.before.before.before.before.before.before.before.before.requires in runs_written _ _ _ _ _ _ c.before.before.before.before.before.before.before.before.before.before.before.before.before.before.before.before.before.before.run.result.answer _ _ _ _ _ _ _ _ c.before.before.before.before.before.before.before.before.before.before.before.before.before.before.before.before.before.before.run.ensures (c.before.before.before.before.before.before.before.before.before.before.before.before.before.before.before.before.before.before.before.before.before.before.before.before.before.before.before.before.before.before.before.clear-all.ensures ∙ ap (λ (n : ℕ). replicate n 0) q.1) (c.before.before.before.before.before.before.before.before.before.before.before.before.before.before.before.before.before.before.before.before.before.before.before.before.before.before.before.clear-all2.ensures ∙ ap (λ (n : ℕ). replicate n 0) q.2) c.before.before.before.before.before.answer-number.ensures c.before.before.put-result.ensures q.3
 
 pub replay-spec : {M : Type 1} → statement M
 replay-spec =

@@ -1,5 +1,5 @@
 -- `engine::play_levels`: each end of the call by its law. Assumes nothing.
-use Rattle.engine.proofs.CallLaws.{call-unfit, call-refused, call-both}
+use Rattle.engine.proofs.CallLaws.{call_unfit, call_refused, call_both}
 use borrow.Author.Rules.{rules}
 use Rattle.engine.proofs.play_levels.Statement.{statement}
 use Rattle.engine.proofs.play_levels.Tie as tie
@@ -29,7 +29,7 @@ same-length-5 : tie.Need-same-length-5
 same-length-5 c = search rules
 
 returns : tie.Need-returns
-returns c = call-unfit c.before.before.before.before.before.before.fits-images.ensures c.before.before.before.before.before.if1.true c.before.before.before.answer-number.ensures c.before.before.put-answer.ensures
+returns c = call_unfit c.before.before.before.before.before.before.fits-images.ensures c.before.before.before.before.before.if1.true c.before.before.before.answer-number.ensures c.before.before.put-answer.ensures
 
 judge-requires : tie.Need-judge-requires
 judge-requires c κs = search rules
@@ -56,7 +56,7 @@ same-length-10 : tie.Need-same-length-10
 same-length-10 c = search rules
 
 returns-2 : tie.Need-returns-2
-returns-2 c = call-refused c.before.before.before.before.before.before.before.before.before.fits-images.ensures c.before.before.before.before.before.before.before.before.if1.false c.before.before.before.before.before.before.before.judge.ensures c.before.before.before.before.before.judged.given.1 c.before.before.put-answer2.ensures
+returns-2 c = call_refused c.before.before.before.before.before.before.before.before.before.fits-images.ensures c.before.before.before.before.before.before.before.before.if1.false c.before.before.before.before.before.before.before.judge.ensures c.before.before.before.before.before.judged.given.1 c.before.before.put-answer2.ensures
 
 enum-known-judged-2 : tie.Need-enum-known-judged-2
 enum-known-judged-2 c = search rules
@@ -89,7 +89,7 @@ same-length-15 : tie.Need-same-length-15
 same-length-15 c = search rules
 
 returns-3 : tie.Need-returns-3
-returns-3 c = call-both c.before.before.before.before.before.before.before.before.before.before.before.before.before.before.before.before.before.before.before.before.before.before.before.before.fits-images.ensures c.before.before.before.before.before.before.before.before.before.before.before.before.before.before.before.before.before.before.before.before.before.before.before.if1.false c.before.before.before.before.before.before.before.before.before.before.before.before.before.before.before.before.before.before.before.before.before.before.judge.ensures c.before.before.before.before.before.before.before.before.before.before.before.before.before.before.before.before.before.before.before.before.judged2.given.1 c.before.before.before.before.before.before.before.before.before.before.before.before.before.before.before.before.before.before.start-weave.ensures c.before.before.before.before.before.before.before.before.before.before.before.before.before.play-all.ensures c.before.before.before.answer-number2.ensures c.before.before.put-answer3.ensures
+returns-3 c = call_both c.before.before.before.before.before.before.before.before.before.before.before.before.before.before.before.before.before.before.before.before.before.before.before.before.fits-images.ensures c.before.before.before.before.before.before.before.before.before.before.before.before.before.before.before.before.before.before.before.before.before.before.before.if1.false c.before.before.before.before.before.before.before.before.before.before.before.before.before.before.before.before.before.before.before.before.before.before.judge.ensures c.before.before.before.before.before.before.before.before.before.before.before.before.before.before.before.before.before.before.before.before.judged2.given.1 c.before.before.before.before.before.before.before.before.before.before.before.before.before.before.before.before.before.before.start-weave.ensures c.before.before.before.before.before.before.before.before.before.before.before.before.before.play-all.ensures c.before.before.before.answer-number2.ensures c.before.before.put-answer3.ensures
 
 pub play-levels-spec : {M : Type 1} → statement M
 play-levels-spec =

@@ -1,6 +1,6 @@
 -- `entries::print_plan`: no room, or what the call of the plan gives. Assumes nothing.
 use native.Mathlib.Omega.{arith}
-use Rattle.entries.proofs.Printing.{short-left, outcome-ready, outcome-left}
+use Rattle.entries.proofs.Printing.{short_left, outcome_ready, outcome_left}
 use borrow.Author.Rules.{rules}
 use Rattle.entries.proofs.print_plan.Statement.{statement}
 use Rattle.entries.proofs.print_plan.Tie as tie
@@ -11,7 +11,7 @@ status-in-requires c κs = search rules
 returns : tie.Need-returns
 returns c =
     let a = c.before.before.before.before.before.before.args in
-    short-left a.present.now a.wanted.now a.status.now a.out.now c.before.status-in.result (omega arith) c.before.status-in.ensures
+    short_left a.present.now a.wanted.now a.status.now a.out.now c.before.status-in.result (omega arith) c.before.status-in.ensures
     (λ k. omega (arith, c.before.before.before.before.before.shared-slice-known.given k)) (λ k. omega (arith, c.before.before.before.before.shared-slice-known2.given k)) c.if1.true
 
 slice-aggregate-plan : tie.Need-slice-aggregate-plan
@@ -32,7 +32,7 @@ slice-aggregate-print-outcome-2 c = search rules
 print-outcome-requires : tie.Need-print-outcome-requires
 print-outcome-requires c κs =
     let a = c.before.before.before.before.before.before.before.before.before.before.before.before.before.before.args in
-    outcome-ready a.present.now a.wanted.now a.status.now a.out.now c.before.before.before.before.before.before.before.before.before.status-in.result (omega arith) c.before.before.before.before.before.before.before.before.before.status-in.ensures
+    outcome_ready a.present.now a.wanted.now a.status.now a.out.now c.before.before.before.before.before.before.before.before.before.status-in.result (omega arith) c.before.before.before.before.before.before.before.before.before.status-in.ensures
     (λ k. omega (arith, c.before.before.before.before.before.before.before.before.before.before.before.before.before.shared-slice-known.given k)) (λ k. omega (arith, c.before.before.before.before.before.before.before.before.before.before.before.before.shared-slice-known2.given k))
     _ _ _ _ _ (search rules) (search rules) c.before.before.before.before.before.plan.ensures (omega arith) (search rules)
 
@@ -42,7 +42,7 @@ same_length c = search rules
 returns-2 : tie.Need-returns-2
 returns-2 c =
     let a = c.before.before.before.before.before.before.before.before.before.before.before.before.before.before.before.before.before.args in
-    outcome-left a.present.now a.wanted.now a.status.now a.out.now c.before.before.before.before.before.before.before.before.before.before.before.before.status-in.result (omega arith) c.before.before.before.before.before.before.before.before.before.before.before.before.status-in.ensures
+    outcome_left a.present.now a.wanted.now a.status.now a.out.now c.before.before.before.before.before.before.before.before.before.before.before.before.status-in.result (omega arith) c.before.before.before.before.before.before.before.before.before.before.before.before.status-in.ensures
     (λ k. omega (arith, c.before.before.before.before.before.before.before.before.before.before.before.before.before.before.before.before.shared-slice-known.given k)) (λ k. omega (arith, c.before.before.before.before.before.before.before.before.before.before.before.before.before.before.before.shared-slice-known2.given k))
     _ _ _ _ _ (search rules) (search rules) c.before.before.before.before.before.before.before.before.plan.ensures (omega arith) _ _ c.before.before.print-outcome.ensures.0 c.before.before.print-outcome.ensures.1
 

@@ -1,4 +1,4 @@
-use Rattle.files.proofs.Cases.{loads, loads-none, loads-not}
+use Rattle.files.proofs.Cases.{loads, loads_none, loads_not}
 use borrow.Author.Rules.{rules}
 use Rattle.files.proofs.load.Statement.{statement}
 use Rattle.files.proofs.load.Tie as tie
@@ -10,13 +10,13 @@ errno-requires : tie.Need-errno-requires
 errno-requires c κs = search rules
 
 returns : tie.Need-returns
-returns c = loads-none _
+returns c = loads_none _
 
 fail-requires : tie.Need-fail-requires
 fail-requires c κs = search rules
 
 returns-2 : tie.Need-returns-2
-returns-2 c = loads-not _
+returns-2 c = loads_not _
 
 read-all-requires : tie.Need-read-all-requires
 read-all-requires c κs = search rules
@@ -37,7 +37,7 @@ same_length : tie.Need-same-length
 same_length c = search rules
 
 returns-3 : tie.Need-returns-3
-returns-3 c = loads-not _
+returns-3 c = loads_not _
 
 close-requires-2 : tie.Need-close-requires-2
 close-requires-2 c κs = search rules

@@ -1,6 +1,6 @@
 use mathlib.Core.Path.{ap}
-use Rattle.law.specs.Deciding.{decides-as, refuses, passed}
-use Rattle.flash.specs.Equal.{flash-same}
+use Rattle.law.specs.Deciding.{decides_as, refuses, passed}
+use Rattle.flash.specs.Equal.{flash_same}
 use Rattle.flash.specs.declared.Flash.{Flash}
 use borrow.Author.Rules.{rules}
 use Rattle.flash.proofs.same.Statement.{statement}
@@ -22,17 +22,17 @@ same-status-requires : tie.Need-same-status-requires
 same-status-requires c κs = search rules
 
 returns-3 : tie.Need-returns-3
-returns-3 c = refuses c.before.same-status.ensures c.if3.true (ap (λ (f : Flash). f.status))
+returns-3 c = refuses c.before.same_status.ensures c.if3.true (ap (λ (f : Flash). f.status))
 
 same-page-requires : tie.Need-same-page-requires
 same-page-requires c κs = search rules
 
 returns-4 : tie.Need-returns-4
 returns-4 c =
-    decides-as c.same-page.ensures
-    (flash-same _ _ (passed c.before.before.before.before.before.before.before.before.same-frame.ensures c.before.before.before.before.before.before.before.if1.false)
+    decides_as c.same_page.ensures
+    (flash_same _ _ (passed c.before.before.before.before.before.before.before.before.same-frame.ensures c.before.before.before.before.before.before.before.if1.false)
     (passed c.before.before.before.before.before.before.same-cycle.ensures c.before.before.before.before.before.if2.false)
-    (passed c.before.before.before.before.same-status.ensures c.before.before.before.if3.false))
+    (passed c.before.before.before.before.same_status.ensures c.before.before.before.if3.false))
     (ap (λ (f : Flash). f.page))
 
 pub same_spec : {M : Type 1} → statement M

@@ -5,17 +5,17 @@ use mathlib.Core.List.{List}
 use native.Mathlib.Omega.{arith}
 use lib.ListN.{length, get_or, length-set}
 use Rattle.law.specs.Places.{done, next}
-use Rattle.image.specs.Image.{valueBy, maskBy, inPage, eachPlace}
-use Rattle.image.specs.Changing.{changedPlace}
-use Rattle.image.proofs.Pages.{ofValue, ofMask, begun, turned, ended}
+use Rattle.image.specs.Image.{value_by, mask_by, in_page, each_place}
+use Rattle.image.specs.Changing.{changed_place}
+use Rattle.image.proofs.Pages.{of_value, of_mask, begun, turned, ended}
 use Rattle.image.proofs.change_places.Statement.{statement}
 use Rattle.image.proofs.change_places.Tie as tie
 
 abbrev invariant-loop : tie.invariant-loop
 invariant-loop values₀ masks₀ how number bytes base q₀ values masks q =
     (q ≤ length bytes) × (length values ≡ length values₀) × (length masks ≡ length masks₀)
-    × (values ≡ done (valueBy (inPage (length bytes) number (changedPlace how bytes)) masks₀) (base + q) values₀)
-    × (masks ≡ done (maskBy (inPage (length bytes) number (changedPlace how bytes)) values₀) (base + q) masks₀)
+    × (values ≡ done (value_by (in_page (length bytes) number (changed_place how bytes)) masks₀) (base + q) values₀)
+    × (masks ≡ done (mask_by (in_page (length bytes) number (changed_place how bytes)) values₀) (base + q) masks₀)
 
 abbrev decreases-loop : tie.decreases-loop
 decreases-loop values₀ masks₀ how number bytes base q₀ values masks q = length bytes - q
@@ -29,8 +29,8 @@ loop-holds c =
       omega arith,
       refl,
       refl,
-      begun (length a.bytes.now) a.number (changedPlace a.how a.bytes.now) (ofValue a.masks.now) (λ b. b.value) (λ k x. refl) a.values.now,
-      begun (length a.bytes.now) a.number (changedPlace a.how a.bytes.now) (ofMask a.values.now) (λ b. b.mask) (λ k x. refl) a.masks.now,
+      begun (length a.bytes.now) a.number (changed_place a.how a.bytes.now) (of_value a.masks.now) (λ b. b.value) (λ k x. refl) a.values.now,
+      begun (length a.bytes.now) a.number (changed_place a.how a.bytes.now) (of_mask a.values.now) (λ b. b.mask) (λ k x. refl) a.masks.now,
     )
 
 add-k : tie.Need-overflow-add-k invariant-loop decreases-loop
@@ -65,7 +65,7 @@ loop-again c =
     let a = c.before.before.before.before.before.before.before.before.before.args in
     let l = c.before.before.before.before.before.loop in
     let size = length a.bytes.now in
-    let rule = changedPlace a.how a.bytes.now in
+    let rule = changed_place a.how a.bytes.now in
     let k = size * a.number + l.q in
     let v : get_or l.values k 0 ≡ get_or a.values.now k 0 = ap (λ (xs : List ℕ). get_or xs k 0) l.invariant.3 ∙ next _ k a.values.now in
     let m : get_or l.masks k 0 ≡ get_or a.masks.now k 0 = ap (λ (xs : List ℕ). get_or xs k 0) l.invariant.4 ∙ next _ k a.masks.now in
@@ -74,9 +74,9 @@ loop-again c =
       omega arith,
       simp length-set l.invariant.1,
       simp length-set l.invariant.2,
-      turned size a.number rule (ofValue a.masks.now) (λ b. b.value) (λ k x. refl) a.values.now l.values l.q c.changed.result
+      turned size a.number rule (of_value a.masks.now) (λ b. b.value) (λ k x. refl) a.values.now l.values l.q c.changed.result
           (omega arith) (omega arith) l.invariant.3 e,
-      turned size a.number rule (ofMask a.values.now) (λ b. b.mask) (λ k x. refl) a.masks.now l.masks l.q c.changed.result
+      turned size a.number rule (of_mask a.values.now) (λ b. b.mask) (λ k x. refl) a.masks.now l.masks l.q c.changed.result
           (omega arith) (omega arith) l.invariant.4 e,
     )
 
@@ -87,14 +87,14 @@ same-length-2 : tie.Need-same-length-2 invariant-loop decreases-loop
 same-length-2 c = omega arith
 
 returns : tie.Need-returns invariant-loop decreases-loop
-unfolding eachPlace
+unfolding each_place
 returns c =
     let a = c.before.before.before.before.before.args in
     let l = c.before.loop in
     let size = length a.bytes.now in
-    let rule = changedPlace a.how a.bytes.now in
-    let v = l.invariant.3 ∙ ended size a.number rule (ofValue a.masks.now) (λ b. b.value) (λ k x. refl) a.values.now l.q (omega arith) (omega arith) (omega arith) in
-    let m = l.invariant.4 ∙ ended size a.number rule (ofMask a.values.now) (λ b. b.mask) (λ k x. refl) a.masks.now l.q (omega arith) (omega arith) (omega arith) in
+    let rule = changed_place a.how a.bytes.now in
+    let v = l.invariant.3 ∙ ended size a.number rule (of_value a.masks.now) (λ b. b.value) (λ k x. refl) a.values.now l.q (omega arith) (omega arith) (omega arith) in
+    let m = l.invariant.4 ∙ ended size a.number rule (of_mask a.values.now) (λ b. b.mask) (λ k x. refl) a.masks.now l.q (omega arith) (omega arith) (omega arith) in
     λ i. record { values = v i; masks = m i }
 
 pub change-places-spec : {M : Type 1} → statement M

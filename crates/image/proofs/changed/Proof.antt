@@ -34,7 +34,7 @@ returns : tie.Need-returns
 returns c = simp (c.before.enum_told.given.1, c.programmed.ensures)
 
 returns-2 : tie.Need-returns-2
-returns-2 c = simp (c.before.enum-told2.given.1, c.cut-program.ensures)
+returns-2 c = simp (c.before.enum-told2.given.1, c.cut_program.ensures)
 
 returns-3 : tie.Need-returns-3
 returns-3 c = simp (c.before.before.before.before.how.given.1, via c.before.before.sent.ensures c.before.if1.true, c.stored.ensures)

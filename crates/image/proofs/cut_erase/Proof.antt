@@ -1,7 +1,7 @@
 use mathlib.Core.Path.{ap, ◌∙◌}
 use Rattle.cell.specs.declared.Cell.{Cell}
-use Rattle.image.specs.Image.{image_of, onImage}
-use Rattle.image.specs.Cycles.{cutEraseAll}
+use Rattle.image.specs.Image.{image_of, on_image}
+use Rattle.image.specs.Cycles.{cut_erase_all}
 use borrow.Author.Rules.{rules}
 use Rattle.image.proofs.cut_erase.Statement.{statement}
 use Rattle.image.proofs.cut_erase.Tie as tie
@@ -19,10 +19,10 @@ same-length-2 : tie.Need-same-length-2
 same-length-2 c = search rules
 
 returns : tie.Need-returns
-unfolding cutEraseAll
+unfolding cut_erase_all
 returns c =
     let s = c.before.before.before.before.before.before.before.before.before.before.args in
-    c.before.before.before.before.fill-both.ensures ∙ ap (λ (b : Cell). onImage (λ k a. b) (image_of s.values.now s.masks.now)) c.before.before.before.before.before.doubtful.ensures
+    c.before.before.before.before.fill-both.ensures ∙ ap (λ (b : Cell). on_image (λ k a. b) (image_of s.values.now s.masks.now)) c.before.before.before.before.before.doubtful.ensures
 
 pub cut-erase-spec : {M : Type 1} → statement M
 cut-erase-spec =

@@ -1,4 +1,4 @@
-use Rattle.image.specs.Cycles.{cutStorePage}
+use Rattle.image.specs.Cycles.{cut_store_page}
 use borrow.Author.Rules.{rules}
 use Rattle.image.proofs.cut_store_page.Statement.{statement}
 use Rattle.image.proofs.cut_store_page.Tie as tie
@@ -16,7 +16,7 @@ same-length-2 : tie.Need-same-length-2
 same-length-2 c = search rules
 
 returns : tie.Need-returns
-unfolding cutStorePage
+unfolding cut_store_page
 returns c = c.before.before.before.before.change-page.ensures
 
 pub cut-store-page-spec : {M : Type 1} → statement M

@@ -1,7 +1,7 @@
 use mathlib.Core.Path.{ap, ◌∙◌}
 use Rattle.cell.specs.declared.Cell.{Cell}
-use Rattle.image.specs.Image.{image_of, onImage}
-use Rattle.image.specs.Cycles.{eraseAll}
+use Rattle.image.specs.Image.{image_of, on_image}
+use Rattle.image.specs.Cycles.{erase_all}
 use borrow.Author.Rules.{rules}
 use Rattle.image.proofs.erase.Statement.{statement}
 use Rattle.image.proofs.erase.Tie as tie
@@ -19,10 +19,10 @@ same-length-2 : tie.Need-same-length-2
 same-length-2 c = search rules
 
 returns : tie.Need-returns
-unfolding eraseAll
+unfolding erase_all
 returns c =
     let s = c.before.before.before.before.before.before.before.before.before.before.args in
-    c.before.before.before.before.fill-both.ensures ∙ ap (λ (b : Cell). onImage (λ k a. b) (image_of s.values.now s.masks.now)) c.before.before.before.before.before.erased.ensures
+    c.before.before.before.before.fill-both.ensures ∙ ap (λ (b : Cell). on_image (λ k a. b) (image_of s.values.now s.masks.now)) c.before.before.before.before.before.erased.ensures
 
 pub erase-spec : {M : Type 1} → statement M
 erase-spec =

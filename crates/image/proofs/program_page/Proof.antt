@@ -3,9 +3,9 @@ use mathlib.Core.Path.{◌≡◌, ap, ◌∙◌}
 use native.Mathlib.Omega.{arith}
 use lib.ListN.{length}
 use Rattle.image.specs.declared.Change.TheVariants.{Program}
-use Rattle.image.specs.Image.{image_of, onPage}
-use Rattle.image.specs.Cycles.{programPage}
-use Rattle.image.specs.Changing.{changedPlace}
+use Rattle.image.specs.Image.{image_of, on_page}
+use Rattle.image.specs.Cycles.{program_page}
+use Rattle.image.specs.Changing.{changed_place}
 use borrow.Author.Rules.{rules}
 use Rattle.image.proofs.program_page.Statement.{statement}
 use Rattle.image.proofs.program_page.Tie as tie
@@ -23,11 +23,11 @@ same-length-2 : tie.Need-same-length-2
 same-length-2 c = search rules
 
 returns : tie.Need-returns
-unfolding programPage
+unfolding program_page
 returns c =
     let s = c.before.before.before.before.before.before.before.before.before.before.args in
     let l : length s.t4 ≡ 256 = omega arith in
-    c.before.before.before.before.change-page.ensures ∙ ap (λ (n : ℕ). onPage n s.number (changedPlace Program s.t4) (image_of s.values.now s.masks.now)) l
+    c.before.before.before.before.change-page.ensures ∙ ap (λ (n : ℕ). on_page n s.number (changed_place Program s.t4) (image_of s.values.now s.masks.now)) l
 
 pub program-page-spec : {M : Type 1} → statement M
 program-page-spec =

@@ -1,7 +1,7 @@
 use Prim.Native.Nat.{◌+◌, ◌-◌}
 use mathlib.Core.Path.{◌≡◌, refl}
 use native.Mathlib.Omega.{arith}
-use Rattle.page.specs.Geometry.{eepromPage}
+use Rattle.page.specs.Geometry.{eeprom_page}
 use borrow.Author.Rules.{rules}
 use Rattle.image.proofs.sent.Statement.{statement}
 use Rattle.image.proofs.sent.Tie as tie
@@ -18,7 +18,7 @@ returns c = search rules
 returns-2 : tie.Need-returns-2
 returns-2 c =
     let a = c.before.args in
-    let e : a.q + (eepromPage - a.first) ≡ a.q = omega (arith, c.if1.false) in
+    let e : a.q + (eeprom_page - a.first) ≡ a.q = omega (arith, c.if1.false) in
     rw e refl
 
 pub sent-spec : {M : Type 1} → statement M

@@ -1,8 +1,8 @@
-use Rattle.judge.proofs.CheckLaws.{Sofar, first-none, first-bad, first_good, later-none, later-bad, later-good, check-end}
+use Rattle.judge.proofs.CheckLaws.{Sofar, first_none, first_bad_lem, first_good, later_none, later_bad, later_good, check_end}
 use Rattle.capture.specs.OneByOne.{levels}
 use Rattle.capture.proofs.OneByOne.{some_level, behind}
-use Rattle.level.proofs.LevelLaws.{tells-level}
-use Rattle.field.proofs.Reading.{got-none, got-one}
+use Rattle.level.proofs.LevelLaws.{tells_level}
+use Rattle.field.proofs.Reading.{got_none, got_one}
 use lib.ListN.{length}
 use Prim.Native.Nat.{◌-◌}
 use native.Mathlib.Omega.{arith}
@@ -26,7 +26,7 @@ enum_told : tie.Need-enum-told invariant-loop decreases-loop
 enum_told c = search rules
 
 returns : tie.Need-returns invariant-loop decreases-loop
-returns c = first-none (got-none tells-level c.before.before.read-level.ensures c.enum_told.given.1)
+returns c = first_none (got_none tells_level c.before.before.read-level.ensures c.enum_told.given.1)
 
 reach-from-requires : tie.Need-reach-from-requires invariant-loop decreases-loop
 reach-from-requires c κs = search rules
@@ -38,13 +38,13 @@ enum-known-answer : tie.Need-enum-known-answer invariant-loop decreases-loop
 enum-known-answer c = search rules
 
 returns-2 : tie.Need-returns-2 invariant-loop decreases-loop
-returns-2 c = first-bad (got-one tells-level c.before.before.before.before.before.before.before.before.read-level.ensures _ _ c.before.before.before.before.before.before.l.given.1) c.before.before.before.before.reach-from.ensures c.before.before.before.first-fault.ensures c.before.answer.given.1
+returns-2 c = first_bad_lem (got_one tells_level c.before.before.before.before.before.before.before.before.read-level.ensures _ _ c.before.before.before.before.before.before.l.given.1) c.before.before.before.before.reach-from.ensures c.before.before.before.first-fault.ensures c.before.answer.given.1
 
 enum-told-2 : tie.Need-enum-told-2 invariant-loop decreases-loop
 enum-told-2 c = search rules
 
 loop-holds : tie.Need-loop-init invariant-loop decreases-loop
-loop-holds c = first_good (got-one tells-level c.before.before.before.before.before.before.before.read-level.ensures _ _ c.before.before.before.before.before.l.given.1) c.before.before.before.reach-from.ensures c.before.before.first-fault.ensures c.enum-told2.given.1
+loop-holds c = first_good (got_one tells_level c.before.before.before.before.before.before.before.read-level.ensures _ _ c.before.before.before.before.before.l.given.1) c.before.before.before.reach-from.ensures c.before.before.first-fault.ensures c.enum-told2.given.1
 
 read-level-requires-2 : tie.Need-read-level-requires-2 invariant-loop decreases-loop
 read-level-requires-2 c κs = search rules
@@ -56,7 +56,7 @@ enum-told-3 : tie.Need-enum-told-3 invariant-loop decreases-loop
 enum-told-3 c = search rules
 
 returns-3 : tie.Need-returns-3 invariant-loop decreases-loop
-returns-3 c = later-none c.before.before.before.before.loop.invariant c.before.before.before.loop-test.true (got-none tells-level c.before.before.read-level2.ensures c.enum-told3.given.1)
+returns-3 c = later_none c.before.before.before.before.loop.invariant c.before.before.before.loop-test.true (got_none tells_level c.before.before.read-level2.ensures c.enum-told3.given.1)
 
 reach-on-requires : tie.Need-reach-on-requires invariant-loop decreases-loop
 reach-on-requires c κs = search rules
@@ -68,24 +68,24 @@ enum-known-answer-2 : tie.Need-enum-known-answer-2 invariant-loop decreases-loop
 enum-known-answer-2 c = search rules
 
 returns-4 : tie.Need-returns-4 invariant-loop decreases-loop
-returns-4 c = later-bad c.before.before.before.before.before.before.before.before.before.before.loop.invariant (got-one tells-level c.before.before.before.before.before.before.before.before.read-level2.ensures _ _ c.before.before.before.before.before.before.k.given.1) c.before.before.before.before.reach-on.ensures c.before.before.before.later-fault.ensures c.before.answer2.given.1
+returns-4 c = later_bad c.before.before.before.before.before.before.before.before.before.before.loop.invariant (got_one tells_level c.before.before.before.before.before.before.before.before.read-level2.ensures _ _ c.before.before.before.before.before.before.k.given.1) c.before.before.before.before.reach-on.ensures c.before.before.before.later-fault.ensures c.before.answer2.given.1
 
 enum-told-4 : tie.Need-enum-told-4 invariant-loop decreases-loop
 enum-told-4 c = search rules
 
 add-number : tie.Need-overflow-add-number invariant-loop decreases-loop
 unfolding levels
-add-number c = let w = behind some_level (got-one tells-level c.before.before.before.before.before.before.before.read-level2.ensures _ _ c.before.before.before.before.before.k.given.1) in omega (arith, c.before.before.before.before.before.before.before.before.before.loop.invariant.small)
+add-number c = let w = behind some_level (got_one tells_level c.before.before.before.before.before.before.before.read-level2.ensures _ _ c.before.before.before.before.before.k.given.1) in omega (arith, c.before.before.before.before.before.before.before.before.before.loop.invariant.small)
 
 loop-less : tie.Need-loop-smaller invariant-loop decreases-loop
 unfolding levels
-loop-less c = let w = behind some_level (got-one tells-level c.before.before.before.before.before.before.before.read-level2.ensures _ _ c.before.before.before.before.before.k.given.1) in omega arith
+loop-less c = let w = behind some_level (got_one tells_level c.before.before.before.before.before.before.before.read-level2.ensures _ _ c.before.before.before.before.before.k.given.1) in omega arith
 
 loop-again : tie.Need-loop-preserved invariant-loop decreases-loop
-loop-again c = later-good c.before.before.before.before.before.before.before.before.before.loop.invariant (got-one tells-level c.before.before.before.before.before.before.before.read-level2.ensures _ _ c.before.before.before.before.before.k.given.1) c.before.before.before.reach-on.ensures c.before.before.later-fault.ensures c.enum-told4.given.1
+loop-again c = later_good c.before.before.before.before.before.before.before.before.before.loop.invariant (got_one tells_level c.before.before.before.before.before.before.before.read-level2.ensures _ _ c.before.before.before.before.before.k.given.1) c.before.before.before.reach-on.ensures c.before.before.later-fault.ensures c.enum-told4.given.1
 
 returns-5 : tie.Need-returns-5 invariant-loop decreases-loop
-returns-5 c = check-end c.before.loop.invariant (got-one tells-level c.before.before.before.before.before.before.before.before.before.read-level.ensures _ _ c.before.before.before.before.before.before.before.l.given.1) c.loop-test.false
+returns-5 c = check_end c.before.loop.invariant (got_one tells_level c.before.before.before.before.before.before.before.before.before.read-level.ensures _ _ c.before.before.before.before.before.before.before.l.given.1) c.loop-test.false
 
 pub check-levels-spec : {M : Type 1} → statement M
 check-levels-spec =

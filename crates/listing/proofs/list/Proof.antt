@@ -1,4 +1,4 @@
-use Rattle.listing.proofs.Whole.{ready-says, other-listed, not-ready, refused, ended, played-lines, lists, lists-played}
+use Rattle.listing.proofs.Whole.{ready_says, other_listed, not_ready, refused, ended, played_lines, lists, lists_played}
 use Rattle.law.specs.Choice.{via}
 use borrow.Author.Tests.{not-true, not-false}
 use native.Mathlib.Omega.{arith}
@@ -7,19 +7,19 @@ use Rattle.listing.proofs.list.Statement.{statement}
 use Rattle.listing.proofs.list.Tie as tie
 
 returns : tie.Need-returns
-returns c = lists (λ lines. other-listed _ _ _ _ _ c.if1.true)
+returns c = lists (λ lines. other_listed _ _ _ _ _ c.if1.true)
 
 is-ready-requires : tie.Need-is-ready-requires
 is-ready-requires c κs = search rules
 
 returns-2 : tie.Need-returns-2
-returns-2 c = lists (λ lines. not-ready _ _ _ _ _ c.before.before.if1.false (via c.before.is-ready.ensures (not-true _ c.if2.true)))
+returns-2 c = lists (λ lines. not_ready _ _ _ _ _ c.before.before.if1.false (via c.before.is-ready.ensures (not-true _ c.if2.true)))
 
 refuses-requires : tie.Need-refuses-requires
-refuses-requires c κs = (ready-says _ _ (via c.before.is-ready.ensures (not-false _ c.if2.false))).0
+refuses-requires c κs = (ready_says _ _ (via c.before.is-ready.ensures (not-false _ c.if2.false))).0
 
 list-refusal-requires : tie.Need-list-refusal-requires
-list-refusal-requires c κs = let r = ready-says _ _ (via c.before.before.before.before.is-ready.ensures (not-false _ c.before.before.before.if2.false)) in (r.0, via c.before.before.refuses.ensures c.before.if3.true, omega (arith, r.1))
+list-refusal-requires c κs = let r = ready_says _ _ (via c.before.before.before.before.is-ready.ensures (not-false _ c.before.before.before.if2.false)) in (r.0, via c.before.before.refuses.ensures c.before.if3.true, omega (arith, r.1))
 
 same_length : tie.Need-same-length
 same_length c = search rules
@@ -28,16 +28,16 @@ returns-3 : tie.Need-returns-3
 returns-3 c = lists (λ lines. refused _ _ _ _ c.before.before.before.before.before.before.before.before.if1.false (via c.before.before.before.before.before.before.before.is-ready.ensures (not-false _ c.before.before.before.before.before.before.if2.false)) _ lines (via c.before.before.before.before.before.refuses.ensures c.before.before.before.before.if3.true) c.before.before.list-refusal.ensures)
 
 list-played-requires : tie.Need-list-played-requires
-list-played-requires c κs = let r = ready-says _ _ (via c.before.before.before.before.is-ready.ensures (not-false _ c.before.before.before.if2.false)) in (search rules, r.1)
+list-played-requires c κs = let r = ready_says _ _ (via c.before.before.before.before.is-ready.ensures (not-false _ c.before.before.before.if2.false)) in (search rules, r.1)
 
 list-last-requires : tie.Need-list-last-requires
-list-last-requires c κs = let r = ready-says _ _ (via c.before.before.before.before.before.before.before.before.is-ready.ensures (not-false _ c.before.before.before.before.before.before.before.if2.false)) in (r.0, omega (arith, r.1, (played-lines c.before.before.before.before.before.before.before.before.before.if1.false c.before.before.before.list-played.ensures).space))
+list-last-requires c κs = let r = ready_says _ _ (via c.before.before.before.before.before.before.before.before.is-ready.ensures (not-false _ c.before.before.before.before.before.before.before.if2.false)) in (r.0, omega (arith, r.1, (played_lines c.before.before.before.before.before.before.before.before.before.if1.false c.before.before.before.list-played.ensures).space))
 
 same-length-2 : tie.Need-same-length-2
 same-length-2 c = search rules
 
 returns-4 : tie.Need-returns-4
-returns-4 c = let p = c.before.before.before.before.before.before.list-played.ensures in lists-played p (ended _ _ _ _ c.before.before.before.before.before.before.before.before.before.before.before.before.if1.false (via c.before.before.before.before.before.before.before.before.before.before.before.is-ready.ensures (not-false _ c.before.before.before.before.before.before.before.before.before.before.if2.false)) _ _ (via c.before.before.before.before.before.before.before.before.before.refuses.ensures c.before.before.before.before.before.before.before.before.if3.false) (omega arith) (played-lines c.before.before.before.before.before.before.before.before.before.before.before.before.if1.false p) c.before.before.list-last.ensures)
+returns-4 c = let p = c.before.before.before.before.before.before.list-played.ensures in lists_played p (ended _ _ _ _ c.before.before.before.before.before.before.before.before.before.before.before.before.if1.false (via c.before.before.before.before.before.before.before.before.before.before.before.is-ready.ensures (not-false _ c.before.before.before.before.before.before.before.before.before.before.if2.false)) _ _ (via c.before.before.before.before.before.before.before.before.before.refuses.ensures c.before.before.before.before.before.before.before.before.if3.false) (omega arith) (played_lines c.before.before.before.before.before.before.before.before.before.before.before.before.if1.false p) c.before.before.list-last.ensures)
 
 pub list-spec : {M : Type 1} → statement M
 list-spec =

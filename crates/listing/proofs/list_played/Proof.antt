@@ -1,5 +1,5 @@
 use Rattle.listing.proofs.Walk.{headed}
-use Rattle.listing.proofs.Lengths.{heading-length, fits}
+use Rattle.listing.proofs.Lengths.{heading_length, fits}
 use native.Mathlib.Omega.{arith}
 use borrow.Author.Rules.{rules}
 use Rattle.listing.proofs.list_played.Statement.{statement}
@@ -9,10 +9,10 @@ heading-line-requires : tie.Need-heading-line-requires
 heading-line-requires c κs = search rules
 
 copy-line-requires : tie.Need-copy-line-requires
-copy-line-requires c κs = (fits _ c.before.heading-line.ensures (omega (arith, heading-length)), omega arith)
+copy-line-requires c κs = (fits _ c.before.heading-line.ensures (omega (arith, heading_length)), omega arith)
 
 list-records-requires : tie.Need-list-records-requires
-list-records-requires c κs = let h = fits _ c.before.before.before.before.before.heading-line.ensures (omega (arith, heading-length)) in
+list-records-requires c κs = let h = fits _ c.before.before.before.before.before.heading-line.ensures (omega (arith, heading_length)) in
     (search rules, omega (arith, c.before.before.before.Copy-Line.ensures.0), omega arith)
 
 same_length : tie.Need-same-length

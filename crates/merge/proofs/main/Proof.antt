@@ -1,7 +1,7 @@
 -- `merge::main`: no file's bytes reach beyond its buffer, and what is printed not beyond the output. Assumes nothing.
 use native.Mathlib.Omega.{arith}
 use lib.ListN.{length-take}
-use Rattle.printing.proofs.OneMerge.{merge-within}
+use Rattle.printing.proofs.OneMerge.{merge_within}
 use borrow.Author.Rules.{rules}
 use Rattle.merge.proofs.main.Statement.{statement}
 use Rattle.merge.proofs.main.Tie as tie
@@ -61,10 +61,10 @@ print-merge-requires : tie.Need-print-merge-requires
 print-merge-requires c κs = search rules
 
 array-share-prefix-out : tie.Need-array-share-prefix-out
-array-share-prefix-out c = let h = merge-within c.before.before.before.print-merge.ensures in omega arith
+array-share-prefix-out c = let h = merge_within c.before.before.before.print-merge.ensures in omega arith
 
 slice-aggregate-write-all : tie.Need-slice-aggregate-write-all
-slice-aggregate-write-all c = let h = merge-within c.before.before.before.before.print-merge.ensures in simp length-take (omega arith)
+slice-aggregate-write-all c = let h = merge_within c.before.before.before.before.print-merge.ensures in simp length-take (omega arith)
 
 write-all-requires : tie.Need-write-all-requires
 write-all-requires c κs = search rules
@@ -73,10 +73,10 @@ returns-3 : tie.Need-returns-3
 returns-3 c = search rules
 
 array-share-prefix-out-2 : tie.Need-array-share-prefix-out-2
-array-share-prefix-out-2 c = let h = merge-within c.before.before.before.print-merge.ensures in omega arith
+array-share-prefix-out-2 c = let h = merge_within c.before.before.before.print-merge.ensures in omega arith
 
 slice-aggregate-write-all-2 : tie.Need-slice-aggregate-write-all-2
-slice-aggregate-write-all-2 c = let h = merge-within c.before.before.before.before.print-merge.ensures in simp length-take (omega arith)
+slice-aggregate-write-all-2 c = let h = merge_within c.before.before.before.before.print-merge.ensures in simp length-take (omega arith)
 
 write-all-requires-2 : tie.Need-write-all-requires-2
 write-all-requires-2 c κs = search rules

@@ -1,6 +1,6 @@
 -- `merged::merge`: one of four ends. Assumes nothing.
 use native.Mathlib.Omega.{arith}
-use Rattle.merged.proofs.CallLaws.{both-within, merge-unfit, merge-refused, length-small, merge-short, merge-written}
+use Rattle.merged.proofs.CallLaws.{both_within, merge_unfit, merge_refused, length_small, merge_short, merge_written}
 use borrow.Author.Rules.{rules}
 use Rattle.merged.proofs.merge.Statement.{statement}
 use Rattle.merged.proofs.merge.Tie as tie
@@ -15,7 +15,7 @@ same_length : tie.Need-same-length
 same_length c = search rules
 
 returns : tie.Need-returns
-returns c = merge-unfit c.before.before.before.before.before.if1.true c.before.before.before.answer-number.ensures c.before.before.put-answer.ensures
+returns c = merge_unfit c.before.before.before.before.before.if1.true c.before.before.before.answer-number.ensures c.before.before.put-answer.ensures
 
 judge-requires : tie.Need-judge-requires
 judge-requires c κs = search rules
@@ -30,13 +30,13 @@ same-length-2 : tie.Need-same-length-2
 same-length-2 c = search rules
 
 returns-2 : tie.Need-returns-2
-returns-2 c = merge-refused c.before.before.before.before.before.before.before.before.if1.false c.before.before.before.before.before.before.before.judge.ensures c.before.before.before.before.before.judged.given.1 c.before.before.put-answer2.ensures
+returns-2 c = merge_refused c.before.before.before.before.before.before.before.before.if1.false c.before.before.before.before.before.before.before.judge.ensures c.before.before.before.before.before.judged.given.1 c.before.before.put-answer2.ensures
 
 enum-known-judged-2 : tie.Need-enum-known-judged-2
 enum-known-judged-2 c = search rules
 
 has-room-requires : tie.Need-has-room-requires
-has-room-requires c κs = both-within c.before.before.before.judge.ensures c.before.judged2.given.1
+has-room-requires c κs = both_within c.before.before.before.judge.ensures c.before.judged2.given.1
 
 levels-answer-number-requires : tie.Need-levels-answer-number-requires
 levels-answer-number-requires c κs = search rules
@@ -48,7 +48,7 @@ same-length-3 : tie.Need-same-length-3
 same-length-3 c = search rules
 
 returns-3 : tie.Need-returns-3
-returns-3 c = merge-short c.before.before.before.before.before.before.before.before.before.before.before.if1.false c.before.before.before.before.before.before.before.before.before.before.judge.ensures c.before.before.before.before.before.before.before.before.judged2.given.1 c.before.before.before.before.before.before.has_room.ensures c.before.before.before.before.before.if2.true c.before.before.before.levels-answer-number.ensures c.before.before.put-answer3.ensures
+returns-3 c = merge_short c.before.before.before.before.before.before.before.before.before.before.before.if1.false c.before.before.before.before.before.before.before.before.before.before.judge.ensures c.before.before.before.before.before.before.before.before.judged2.given.1 c.before.before.before.before.before.before.has_room.ensures c.before.before.before.before.before.if2.true c.before.before.before.levels-answer-number.ensures c.before.before.put-answer3.ensures
 
 start-weave-requires : tie.Need-start-weave-requires
 start-weave-requires c κs = search rules
@@ -60,7 +60,7 @@ answer-number-requires-2 : tie.Need-answer-number-requires-2
 answer-number-requires-2 c κs = search rules
 
 cast-put-answer : tie.Need-overflow-cast-put-answer
-cast-put-answer c = omega (arith, length-small c.before.before.before.before.before.before.before.before.before.before.before.before.judge.ensures c.before.before.before.before.before.before.before.before.before.before.judged2.given.1 c.before.before.before.before.before.before.before.before.has_room.ensures c.before.before.before.before.before.before.before.if2.false c.before.before.before.before.before.before.start-weave.ensures c.before.before.before.before.write-text.ensures)
+cast-put-answer c = omega (arith, length_small c.before.before.before.before.before.before.before.before.before.before.before.before.judge.ensures c.before.before.before.before.before.before.before.before.before.before.judged2.given.1 c.before.before.before.before.before.before.before.before.has_room.ensures c.before.before.before.before.before.before.before.if2.false c.before.before.before.before.before.before.start-weave.ensures c.before.before.before.before.write-text.ensures)
 
 put-answer-requires-4 : tie.Need-put-answer-requires-4
 put-answer-requires-4 c κs = search rules
@@ -72,7 +72,7 @@ same-length-5 : tie.Need-same-length-5
 same-length-5 c = search rules
 
 returns-4 : tie.Need-returns-4
-returns-4 c = merge-written c.before.before.before.before.before.before.before.before.before.before.before.before.before.before.before.before.if1.false c.before.before.before.before.before.before.before.before.before.before.before.before.before.before.before.judge.ensures c.before.before.before.before.before.before.before.before.before.before.before.before.before.judged2.given.1 c.before.before.before.before.before.before.before.before.before.before.before.has_room.ensures c.before.before.before.before.before.before.before.before.before.before.if2.false c.before.before.before.before.before.before.before.before.before.start-weave.ensures c.before.before.before.before.before.before.before.write-text.ensures c.before.before.before.answer-number2.ensures c.before.before.put-answer4.ensures
+returns-4 c = merge_written c.before.before.before.before.before.before.before.before.before.before.before.before.before.before.before.before.if1.false c.before.before.before.before.before.before.before.before.before.before.before.before.before.before.before.judge.ensures c.before.before.before.before.before.before.before.before.before.before.before.before.before.judged2.given.1 c.before.before.before.before.before.before.before.before.before.before.before.has_room.ensures c.before.before.before.before.before.before.before.before.before.before.if2.false c.before.before.before.before.before.before.before.before.before.start-weave.ensures c.before.before.before.before.before.before.before.write-text.ensures c.before.before.before.answer-number2.ensures c.before.before.put-answer4.ensures
 
 pub merge-spec : {M : Type 1} → statement M
 merge-spec =

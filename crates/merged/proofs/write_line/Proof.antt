@@ -1,4 +1,4 @@
-use Rattle.merged.proofs.LineLaws.{line-beyond, part_out, part-short, part-fits, part-written}
+use Rattle.merged.proofs.LineLaws.{line_beyond, part_out, part_short, part_fits, part_written}
 use native.Mathlib.Omega.{arith}
 use lib.ListN.{length}
 use Prim.Native.Nat.{◌≤◌}
@@ -7,7 +7,7 @@ use Rattle.merged.proofs.write_line.Statement.{statement}
 use Rattle.merged.proofs.write_line.Tie as tie
 
 returns : tie.Need-returns
-returns c = line-beyond c.before.before.args.rec c.before.before.args.at _ c.if1.true
+returns c = line_beyond c.before.before.args.rec c.before.before.args.at _ c.if1.true
 
 sub-write-record : tie.Need-overflow-sub-write-record
 sub-write-record c = search rules
@@ -37,19 +37,19 @@ same-length-2 : tie.Need-same-length-2
 same-length-2 c = search rules
 
 returns-3 : tie.Need-returns-3
-returns-3 c = part-short c.before.before.before.before.before.before.before.before.args.rec c.before.before.before.before.before.before.before.before.args.at c.before.before.before.before.before.before.before.before.args.output.now _ c.before.before.before.before.before.before.if1.false c.before.before.before.before.write-record.ensures _ _ c.enum-told2.given.1
+returns-3 c = part_short c.before.before.before.before.before.before.before.before.args.rec c.before.before.before.before.before.before.before.before.args.at c.before.before.before.before.before.before.before.before.args.output.now _ c.before.before.before.before.before.before.if1.false c.before.before.before.before.write-record.ensures _ _ c.enum-told2.given.1
 
 enum-known-done : tie.Need-enum-known-done
 enum-known-done c = search rules
 
 add-result : tie.Need-overflow-add-result
-add-result c = let k = part-fits c.before.before.before.before.before.before.before.before.before.args.rec c.before.before.before.before.before.before.before.before.before.args.at c.before.before.before.before.before.before.before.before.before.args.output.now _ c.before.before.before.before.before.before.before.if1.false c.before.before.before.before.before.write-record.ensures c.before.done.given.1 in let l : length c.before.before.before.before.before.before.before.before.before.args.output.now ≤ 18446744073709551615 = search rules in omega arith
+add-result c = let k = part_fits c.before.before.before.before.before.before.before.before.before.args.rec c.before.before.before.before.before.before.before.before.before.args.at c.before.before.before.before.before.before.before.before.before.args.output.now _ c.before.before.before.before.before.before.before.if1.false c.before.before.before.before.before.write-record.ensures c.before.done.given.1 in let l : length c.before.before.before.before.before.before.before.before.before.args.output.now ≤ 18446744073709551615 = search rules in omega arith
 
 same-length-3 : tie.Need-same-length-3
 same-length-3 c = search rules
 
 returns-4 : tie.Need-returns-4
-returns-4 c = part-written c.before.before.before.before.before.before.before.before.before.args.rec c.before.before.before.before.before.before.before.before.before.args.at c.before.before.before.before.before.before.before.before.before.args.output.now _ c.before.before.before.before.before.before.before.if1.false c.before.before.before.before.before.write-record.ensures c.before.done.given.1
+returns-4 c = part_written c.before.before.before.before.before.before.before.before.before.args.rec c.before.before.before.before.before.before.before.before.before.args.at c.before.before.before.before.before.before.before.before.before.args.output.now _ c.before.before.before.before.before.before.before.if1.false c.before.before.before.before.before.write-record.ensures c.before.done.given.1
 
 pub write-line-spec : {M : Type 1} → statement M
 write-line-spec =

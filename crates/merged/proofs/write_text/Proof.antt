@@ -1,4 +1,4 @@
-use Rattle.merged.proofs.CallLaws.{text_out, text-short, text-all}
+use Rattle.merged.proofs.CallLaws.{text_out, text_short, text_all}
 use borrow.Author.Rules.{rules}
 use Rattle.merged.proofs.write_text.Statement.{statement}
 use Rattle.merged.proofs.write_text.Tie as tie
@@ -22,7 +22,7 @@ same-length-2 : tie.Need-same-length-2
 same-length-2 c = search rules
 
 returns-2 : tie.Need-returns-2
-returns-2 c = text-short c.before.before.before.before.write-board.ensures c.enum-told2.given.1
+returns-2 c = text_short c.before.before.before.before.write-board.ensures c.enum-told2.given.1
 
 enum-known-done : tie.Need-enum-known-done
 enum-known-done c = search rules
@@ -34,7 +34,7 @@ same-length-3 : tie.Need-same-length-3
 same-length-3 c = search rules
 
 returns-3 : tie.Need-returns-3
-returns-3 c = text-all c.before.before.before.before.before.before.before.before.before.write-board.ensures c.before.before.before.before.before.done.given.1 c.before.before.write-all.ensures
+returns-3 c = text_all c.before.before.before.before.before.before.before.before.before.write-board.ensures c.before.before.before.before.before.done.given.1 c.before.before.write-all.ensures
 
 pub write-text-spec : {M : Type 1} → statement M
 write-text-spec =

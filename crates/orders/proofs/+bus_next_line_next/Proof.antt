@@ -3,10 +3,10 @@ use mathlib.Core.Logic.{⊎_elim}
 use lib.ListN.{length, get_or}
 use mathlib.Core.Bool.{Bool}
 use Rattle.meaning.specs.Meaning.{F, L, most}
-use Rattle.law.specs.Deciding.{Decides, decides-true, refuses, passed}
+use Rattle.law.specs.Deciding.{Decides, decides_true, refuses, passed}
 use Rattle.orders.specs.Stamp.{AgreeFrom, BusAgrees, LineAgrees}
 use Rattle.law.specs.Rest.{unmapped}
-use Rattle.orders.proofs.Stamp.{Whole, none_left, bus-fails, buses-left, both_left, lines_left, reply-first, after-bus, after_line, closing, meets, meets_on, meets-none, met}
+use Rattle.orders.proofs.Stamp.{Whole, none_left, bus_fails, buses_left, both_left, lines_left, reply_first, after_bus, after_line, closing, meets, meets_on, meets_none, met}
 use Prim.Native.Nat.{ℕ, ◌+◌, ◌-◌, ◌<◌}
 use native.Mathlib.Omega.{arith}
 use borrow.Author.Rules.{rules}
@@ -63,16 +63,16 @@ line-callees t = (play-reads.Asked, play-reads.Learnt, closes-reads.Asked, close
 -- the arrays are as long as declared: what owning the parameters tells
 bus-next-whole : (t : ℕ) (c : bus-next-lts.Start (bus-callees t) (bus-next-at t) bus-next.Post) → Whole c.args.t2 c.args.t6
 bus-next-whole t c =
-    let lb : length c.args.t2.buses ≡ most F = unmapped _ c.args.t2.buses (most F) c.well-formed.1.0.1.1.0.1.0.1 in
-    let ll : length c.args.t2.lines ≡ most L = unmapped _ c.args.t2.lines (most L) c.well-formed.1.0.1.1.1.1.0.1.0.1 in
-    let lr : length c.args.t6.replies ≡ most F = unmapped _ c.args.t6.replies (most F) c.well-formed.1.1.1.1.1.0.1.1.1.0.1.0.1 in
+    let lb : length c.args.t2.buses ≡ most F = unmapped _ c.args.t2.buses (most F) c.well_formed.1.0.1.1.0.1.0.1 in
+    let ll : length c.args.t2.lines ≡ most L = unmapped _ c.args.t2.lines (most L) c.well_formed.1.0.1.1.1.1.0.1.0.1 in
+    let lr : length c.args.t6.replies ≡ most F = unmapped _ c.args.t6.replies (most F) c.well_formed.1.1.1.1.1.0.1.1.1.0.1.0.1 in
     omega arith
 
 line-next-whole : (t : ℕ) (c : line-next-lts.Start (line-callees t) (line-next-at t) line-next.Post) → Whole c.args.t2 c.args.t7
 line-next-whole t c =
-    let lb : length c.args.t2.buses ≡ most F = unmapped _ c.args.t2.buses (most F) c.well-formed.1.0.1.1.0.1.0.1 in
-    let ll : length c.args.t2.lines ≡ most L = unmapped _ c.args.t2.lines (most L) c.well-formed.1.0.1.1.1.1.0.1.0.1 in
-    let lr : length c.args.t7.replies ≡ most F = unmapped _ c.args.t7.replies (most F) c.well-formed.1.1.1.1.1.1.0.1.1.1.0.1.0.1 in
+    let lb : length c.args.t2.buses ≡ most F = unmapped _ c.args.t2.buses (most F) c.well_formed.1.0.1.1.0.1.0.1 in
+    let ll : length c.args.t2.lines ≡ most L = unmapped _ c.args.t2.lines (most L) c.well_formed.1.0.1.1.1.1.0.1.0.1 in
+    let lr : length c.args.t7.replies ≡ most F = unmapped _ c.args.t7.replies (most F) c.well_formed.1.1.1.1.1.1.0.1.1.1.0.1.0.1 in
     omega arith
 
 -- after the reply has passed, what is left is every order of the rest
@@ -80,7 +80,7 @@ bus-next-then : (t : ℕ) (c : bus-next-lts.Else1 (bus-callees t) (bus-next-at t
     Decides b (AgreeFrom c.before.before.before.before.before.args.t2 (c.before.before.before.before.before.args.ib + 1) c.before.before.before.before.before.args.il c.before.before.before.play.result.controls c.before.before.before.before.before.args.t6) →
     Decides b (BusAgrees c.before.before.before.before.before.args.rec c.before.before.before.before.before.args.t2 c.before.before.before.before.before.args.ib c.before.before.before.before.before.args.il c.before.before.before.before.before.args.controls c.before.before.before.before.before.args.t6)
 bus-next-then t c g =
-    after-bus _ _ (bus-next-whole t c.before.before.before.before.before) _ _ _ _ _ (omega arith) _ c.before.before.before.play.ensures (passed c.before.same-skeleton.ensures c.if1.false) g
+    after_bus _ _ (bus-next-whole t c.before.before.before.before.before) _ _ _ _ _ (omega arith) _ c.before.before.before.play.ensures (passed c.before.same-skeleton.ensures c.if1.false) g
 
 line-next-then : (t : ℕ) (c : line-next-lts.After-play (line-callees t) (line-next-at t) line-next.Post) {b : Bool} →
     Decides b (AgreeFrom c.before.before.args.t2 c.before.before.args.ib (c.before.before.args.il + 1) c.play.result.controls c.before.before.args.t7) →
@@ -113,7 +113,7 @@ bus-next-same-skeleton-requires t c κs = tt
 bus-next-returns : (t : ℕ) → bus-next-lts.Need-returns (bus-callees t) (bus-next-at t) bus-next.Post
 bus-next-returns t c =
     refuses c.before.same-skeleton.ensures c.if1.true
-    (reply-first _ _ (bus-next-whole t c.before.before.before.before.before) _ _ _ _ _ (omega arith) _ c.before.before.before.play.ensures)
+    (reply_first _ _ (bus-next-whole t c.before.before.before.before.before) _ _ _ _ _ (omega arith) _ c.before.before.before.play.ensures)
 
 bus-next-add-at : (t : ℕ) → bus-next-lts.Need-overflow-add-at (bus-callees t) (bus-next-at t) bus-next.Post
 bus-next-add-at t c = search rules
@@ -130,7 +130,7 @@ bus-next-bus-next-requires t c κs = omega arith
 bus-next-returns-2 : (t : ℕ) → bus-next-lts.Need-returns-2 (bus-callees t) (bus-next-at t) bus-next.Post
 bus-next-returns-2 t c =
     bus-next-then t c.before.before.before.before.before
-    (bus-fails _ _ (bus-next-whole t c.before.before.before.before.before.before.before.before.before.before) _ _ _ _ c.before.before.before.if2.true (refuses c.before.bus-next.ensures c.if3.true (λ a. a)))
+    (bus_fails _ _ (bus-next-whole t c.before.before.before.before.before.before.before.before.before.before) _ _ _ _ c.before.before.before.if2.true (refuses c.before.bus-next.ensures c.if3.true (λ a. a)))
 
 bus-next-mul-l : (t : ℕ) → bus-next-lts.Need-overflow-mul-l (bus-callees t) (bus-next-at t) bus-next.Post
 bus-next-mul-l t c = search rules
@@ -157,7 +157,7 @@ bus-next-returns-3 t c =
 bus-next-returns-4 : (t : ℕ) → bus-next-lts.Need-returns-4 (bus-callees t) (bus-next-at t) bus-next.Post
 bus-next-returns-4 t c =
     bus-next-then t c.before.before.before.before.before.before
-    (decides-true (buses-left _ _ (bus-next-whole t c.before.before.before.before.before.before.before.before.before.before.before) _ _ _ _ c.before.before.before.before.if2.true c.if4.false (passed c.before.before.bus-next.ensures c.before.if3.false)))
+    (decides_true (buses_left _ _ (bus-next-whole t c.before.before.before.before.before.before.before.before.before.before.before) _ _ _ _ c.before.before.before.before.if2.true c.if4.false (passed c.before.before.bus-next.ensures c.before.if3.false)))
 
 bus-next-mul-l-2 : (t : ℕ) → bus-next-lts.Need-overflow-mul-l-2 (bus-callees t) (bus-next-at t) bus-next.Post
 bus-next-mul-l-2 t c = search rules
@@ -166,7 +166,7 @@ bus-next-element-copy-out-l-2 : (t : ℕ) → bus-next-lts.Need-element-copy-out
 bus-next-element-copy-out-l-2 t c = search rules
 
 bus-next-line-next-requires-2 : (t : ℕ) → bus-next-lts.Need-line-next-requires-2 (bus-callees t) (bus-next-at t) bus-next.Post
-bus-next-line-next-requires-2 t c κs = (omega arith, (omega arith, meets-none _ _ _ _ _ c.before.before.if2.false))
+bus-next-line-next-requires-2 t c κs = (omega arith, (omega arith, meets_none _ _ _ _ _ c.before.before.if2.false))
 
 bus-next-returns-5 : (t : ℕ) → bus-next-lts.Need-returns-5 (bus-callees t) (bus-next-at t) bus-next.Post
 bus-next-returns-5 t c =
@@ -208,7 +208,7 @@ line-next-bus-next-requires t c κs = omega arith
 line-next-returns : (t : ℕ) → line-next-lts.Need-returns (line-callees t) (line-next-at t) line-next.Post
 line-next-returns t c =
     line-next-then t c.before.before.before.before.before.before.before.before.before
-    (bus-fails _ _ (line-next-whole t c.before.before.before.before.before.before.before.before.before.before.before) _ _ _ _ c.before.before.before.before.before.before.before.if1.true (refuses c.before.bus-next.ensures c.if3.true (λ a. a)))
+    (bus_fails _ _ (line-next-whole t c.before.before.before.before.before.before.before.before.before.before.before) _ _ _ _ c.before.before.before.before.before.before.before.if1.true (refuses c.before.bus-next.ensures c.if3.true (λ a. a)))
 
 line-next-mul-l : (t : ℕ) → line-next-lts.Need-overflow-mul-l (line-callees t) (line-next-at t) line-next.Post
 line-next-mul-l t c = search rules
@@ -235,7 +235,7 @@ line-next-returns-3 : (t : ℕ) → line-next-lts.Need-returns-3 (line-callees t
 line-next-returns-3 t c =
     let known = line-next-known t c.before in
     line-next-then t c.before.before.before.before.before.before.before.before
-    (decides-true (buses-left _ _ (line-next-whole t c.before.before.before.before.before.before.before.before.before.before) _ _ _ known.0 c.before.before.before.before.before.before.if1.true c.if4.false known.1))
+    (decides_true (buses_left _ _ (line-next-whole t c.before.before.before.before.before.before.before.before.before.before) _ _ _ known.0 c.before.before.before.before.before.before.if1.true c.if4.false known.1))
 
 line-next-mul-l-2 : (t : ℕ) → line-next-lts.Need-overflow-mul-l-2 (line-callees t) (line-next-at t) line-next.Post
 line-next-mul-l-2 t c = search rules
@@ -244,7 +244,7 @@ line-next-element-copy-out-l-2 : (t : ℕ) → line-next-lts.Need-element-copy-o
 line-next-element-copy-out-l-2 t c = search rules
 
 line-next-line-next-requires-2 : (t : ℕ) → line-next-lts.Need-line-next-requires-2 (line-callees t) (line-next-at t) line-next.Post
-line-next-line-next-requires-2 t c κs = (omega arith, (omega arith, meets-none _ _ _ _ _ c.before.before.if1.false))
+line-next-line-next-requires-2 t c κs = (omega arith, (omega arith, meets_none _ _ _ _ _ c.before.before.if1.false))
 
 line-next-returns-4 : (t : ℕ) → line-next-lts.Need-returns-4 (line-callees t) (line-next-at t) line-next.Post
 line-next-returns-4 t c =

@@ -1,5 +1,5 @@
 use borrow.Author.Rules.{rules}
-use Rattle.orders.proofs.LineStates.{within-telling, settled-telling}
+use Rattle.orders.proofs.LineStates.{within_telling, settled_telling}
 use Rattle.orders.proofs.agree.Statement.{statement}
 use Rattle.orders.proofs.agree.Tie as tie
 
@@ -10,11 +10,11 @@ telling-requires : tie.Need-telling-requires
 telling-requires c κs = search rules
 
 tried-requires : tie.Need-tried-requires
-tried-requires c κs = within-telling _ _ _ c.telling.ensures c.before.before.before.requires
+tried-requires c κs = within_telling _ _ _ c.telling.ensures c.before.before.before.requires
 
 returns : tie.Need-returns
 returns c =
-    settled-telling _ _ _ c.before.telling.ensures (c.before.before.before.own.ensures c.before.before.if1.true) c.tried.ensures
+    settled_telling _ _ _ c.before.telling.ensures (c.before.before.before.own.ensures c.before.before.if1.true) c.tried.ensures
 
 tried-requires-2 : tie.Need-tried-requires-2
 tried-requires-2 c κs = search rules

@@ -1,6 +1,6 @@
 use borrow.Author.Rules.{rules}
 use mathlib.Core.Path.{sym, ◌∙◌}
-use Rattle.law.specs.Choice.{true-not-false}
+use Rattle.law.specs.Choice.{true_not_false}
 use Rattle.law.specs.Deciding.{passed}
 use Rattle.orders.proofs.closes.Statement.{statement}
 use Rattle.orders.proofs.closes.Tie as tie
@@ -12,7 +12,7 @@ same-skeleton-requires : tie.Need-same-skeleton-requires
 same-skeleton-requires c κs = search rules
 
 returns : tie.Need-returns
-returns c = λ e. absurd (true-not-false (sym e))
+returns c = λ e. absurd (true_not_false (sym e))
 
 same-requires : tie.Need-same-requires
 same-requires c κs = search rules

@@ -3,7 +3,7 @@ use native.Mathlib.Omega.{arith}
 use mathlib.Core.Path.{refl}
 use Rattle.meaning.specs.Meaning.{F, E, L}
 use Rattle.orders.specs.Verdicts.{Few, Judged}
-use Rattle.orders.proofs.Verdicts.{within, settled, differs, is_lost, is-kept}
+use Rattle.orders.proofs.Verdicts.{within, settled, differs, is_lost, is_kept}
 use Rattle.orders.proofs.judge.Statement.{statement}
 use Rattle.orders.proofs.judge.Tie as tie
 
@@ -54,7 +54,7 @@ returns-6 c =
 
 returns-7 : tie.Need-returns-7
 returns-7 c =
-    is-kept _ _ _ (few c.before.before.before.before.before.before.before.before) (settled c.before.before.before.before.before.before.before.before.before.before.before.before.before.before.args.held F _ _ c.before.before.before.before.before.before.before.tied-flash.ensures _ c.before.before.before.before.before.before.agree.ensures) c.before.before.before.before.before.if4.false
+    is_kept _ _ _ (few c.before.before.before.before.before.before.before.before) (settled c.before.before.before.before.before.before.before.before.before.before.before.before.before.before.args.held F _ _ c.before.before.before.before.before.before.before.tied-flash.ensures _ c.before.before.before.before.before.before.agree.ensures) c.before.before.before.before.before.if4.false
     (settled c.before.before.before.before.before.before.before.before.before.before.before.before.before.before.args.held E _ _ c.before.before.before.before.tied-eeprom.ensures _ c.before.before.before.agree2.ensures) c.before.before.if5.false
     _ c.before.lost-after.ensures c.if6.false
 

@@ -1,6 +1,6 @@
 use borrow.Author.Rules.{rules}
 use Rattle.meaning.specs.Meaning.{F, E}
-use Rattle.orders.proofs.Verdicts.{within, in-turn}
+use Rattle.orders.proofs.Verdicts.{within, in_turn_lem}
 use Rattle.orders.proofs.last.Statement.{statement}
 use Rattle.orders.proofs.last.Tie as tie
 
@@ -21,7 +21,7 @@ play-lines-requires c κs = within _ F _ _ c.before.before.before.tied-flash.ens
 
 returns : tie.Need-returns
 returns c =
-    in-turn _ _ _ _ _ _ _ _ c.before.before.before.before.tied-flash.ensures c.before.before.tied-eeprom.ensures
+    in_turn_lem _ _ _ _ _ _ _ _ c.before.before.before.before.tied-flash.ensures c.before.before.tied-eeprom.ensures
     c.before.before.before.play-buses.ensures c.before.play-buses2.ensures c.play-lines.ensures
 
 pub last-spec : {M : Type 1} → statement M

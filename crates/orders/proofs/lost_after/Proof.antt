@@ -1,6 +1,6 @@
 use borrow.Author.Rules.{rules}
 use mathlib.Core.Path.{sym, ap, ◌∙◌}
-use Rattle.controls.specs.Play.{lostOf}
+use Rattle.controls.specs.Play.{lost_of}
 use Rattle.orders.proofs.lost_after.Statement.{statement}
 use Rattle.orders.proofs.lost_after.Tie as tie
 
@@ -20,7 +20,7 @@ lost-requires-2 : tie.Need-lost-requires-2
 lost-requires-2 c κs = search rules
 
 returns-2 : tie.Need-returns-2
-returns-2 c = c.lost2.ensures ∙ ap lostOf c.before.last.ensures
+returns-2 c = c.lost2.ensures ∙ ap lost_of c.before.last.ensures
 
 pub lost-after-spec : {M : Type 1} → statement M
 lost-after-spec =

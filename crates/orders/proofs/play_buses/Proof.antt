@@ -5,7 +5,7 @@ use mathlib.Core.Path.{◌≡◌, refl}
 use lib.ListN.{length}
 use Rattle.meaning.specs.Meaning.{F, most}
 use Rattle.law.specs.Rest.{unmapped}
-use Rattle.orders.proofs.Stamp.{Playing, playing-starts, playing-goes, playing-ends}
+use Rattle.orders.proofs.Stamp.{Playing, playing_starts, playing_goes, playing_ends}
 use Rattle.orders.proofs.play_buses.Statement.{statement}
 use Rattle.orders.proofs.play_buses.Tie as tie
 
@@ -17,11 +17,11 @@ decreases-loop tied replies₀ cur₀ i₀ replies cur i = tied.bus_count - i
 
 all : (c : tie.Start invariant-loop decreases-loop) → c.args.t1.bus_count ≤ length c.args.t1.buses
 all c =
-    let lb : length c.args.t1.buses ≡ most F = unmapped _ c.args.t1.buses (most F) c.well-formed.0.1.1.0.1.0.1 in
+    let lb : length c.args.t1.buses ≡ most F = unmapped _ c.args.t1.buses (most F) c.well_formed.0.1.1.0.1.0.1 in
     omega arith
 
 loop-holds : tie.Need-loop-init invariant-loop decreases-loop
-loop-holds c = playing-starts _ _ _ refl
+loop-holds c = playing_starts _ _ _ refl
 
 mul-rec : tie.Need-overflow-mul-rec invariant-loop decreases-loop
 mul-rec c = search rules
@@ -46,10 +46,10 @@ loop-less c = omega arith
 
 loop-again : tie.Need-loop-preserved invariant-loop decreases-loop
 loop-again c =
-    playing-goes _ (all c.before.before.before.before.before.before) (omega arith) _ _ _ _ c.before.before.before.before.before.loop.invariant _ _ c.before.play.ensures c.before.before.before.before.loop-test.true
+    playing_goes _ (all c.before.before.before.before.before.before) (omega arith) _ _ _ _ c.before.before.before.before.before.loop.invariant _ _ c.before.play.ensures c.before.before.before.before.loop-test.true
 
 returns : tie.Need-returns invariant-loop decreases-loop
-returns c = playing-ends _ (all c.before.before) (omega arith) _ _ _ _ c.before.loop.invariant c.loop-test.false
+returns c = playing_ends _ (all c.before.before) (omega arith) _ _ _ _ c.before.loop.invariant c.loop-test.false
 
 pub play-buses-spec : {M : Type 1} → statement M
 play-buses-spec =

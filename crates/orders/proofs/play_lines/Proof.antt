@@ -6,7 +6,7 @@ use lib.ListN.{length}
 use Rattle.meaning.specs.Meaning.{L, most}
 use Rattle.law.specs.Rest.{unmapped}
 use Rattle.controls.specs.declared.Moved.{Moved}
-use Rattle.orders.proofs.Stamp.{Lining, lining-goes, lining_ends}
+use Rattle.orders.proofs.Stamp.{Lining, lining_goes, lining_ends}
 use Rattle.orders.proofs.play_lines.Statement.{statement}
 use Rattle.orders.proofs.play_lines.Tie as tie
 
@@ -18,7 +18,7 @@ decreases-loop tied cur₀ i₀ cur i = tied.line_count - i
 
 all : (c : tie.Start invariant-loop decreases-loop) → c.args.t1.line_count ≤ length c.args.t1.lines
 all c =
-    let ll : length c.args.t1.lines ≡ most L = unmapped _ c.args.t1.lines (most L) c.well-formed.0.1.1.1.1.0.1.0.1 in
+    let ll : length c.args.t1.lines ≡ most L = unmapped _ c.args.t1.lines (most L) c.well_formed.0.1.1.1.1.0.1.0.1 in
     omega arith
 
 loop-holds : tie.Need-loop-init invariant-loop decreases-loop
@@ -41,7 +41,7 @@ loop-less c = omega arith
 
 loop-again : tie.Need-loop-preserved invariant-loop decreases-loop
 loop-again c =
-    lining-goes _ (all c.before.before.before.before.before.before) _ _ _ c.before.before.before.before.before.loop.invariant _ _ (ap (λ (m : Moved). m.controls) c.before.play.ensures) c.before.before.before.before.loop-test.true
+    lining_goes _ (all c.before.before.before.before.before.before) _ _ _ c.before.before.before.before.before.loop.invariant _ _ (ap (λ (m : Moved). m.controls) c.before.play.ensures) c.before.before.before.before.loop-test.true
 
 returns : tie.Need-returns invariant-loop decreases-loop
 returns c = lining_ends _ (all c.before.before) _ _ _ c.before.loop.invariant c.loop-test.false

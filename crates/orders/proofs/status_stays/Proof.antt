@@ -1,7 +1,7 @@
 use borrow.Author.Rules.{rules}
 use borrow.Author.Tests.{not-false}
 use mathlib.Core.Path.{sym}
-use Rattle.law.specs.Choice.{true-not-false}
+use Rattle.law.specs.Choice.{true_not_false}
 use Rattle.meaning.specs.Meaning.{F, E}
 use Rattle.orders.proofs.Verdicts.{within}
 use Rattle.orders.proofs.Lost.{all_stay}
@@ -15,7 +15,7 @@ own-requires : tie.Need-own-requires
 own-requires c κs = within _ F _ _ c.tied-flash.ensures c.before.requires
 
 returns : tie.Need-returns
-returns c = λ e. absurd (true-not-false (sym e))
+returns c = λ e. absurd (true_not_false (sym e))
 
 tied-eeprom-requires : tie.Need-tied-eeprom-requires
 tied-eeprom-requires c κs = search rules
@@ -24,7 +24,7 @@ own-requires-2 : tie.Need-own-requires-2
 own-requires-2 c κs = within _ E _ _ c.tied-eeprom.ensures c.before.before.before.before.requires
 
 returns-2 : tie.Need-returns-2
-returns-2 c = λ e. absurd (true-not-false (sym e))
+returns-2 c = λ e. absurd (true_not_false (sym e))
 
 none-off-requires : tie.Need-none-off-requires
 none-off-requires c κs = within _ F _ _ c.before.before.before.before.before.tied-flash.ensures c.before.before.before.before.before.before.requires

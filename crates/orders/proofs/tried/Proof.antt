@@ -4,19 +4,19 @@ use mathlib.Core.Path.{◌≡◌}
 use mathlib.Core.Bool.{Bool}
 use lib.ListN.{length}
 use Rattle.meaning.specs.Meaning.{F, L, most}
-use Rattle.law.specs.Deciding.{Decides, decides-true, refuses, passed}
+use Rattle.law.specs.Deciding.{Decides, decides_true, refuses, passed}
 use Rattle.law.specs.Rest.{unmapped}
 use Rattle.orders.specs.Stamp.{AgreeFrom, Settled}
-use Rattle.orders.proofs.Stamp.{Whole, bus-fails, both_left, meets, settles, lineless, busless}
+use Rattle.orders.proofs.Stamp.{Whole, bus_fails, both_left, meets, settles, lineless, busless}
 use Rattle.orders.proofs.tried.Statement.{statement}
 use Rattle.orders.proofs.tried.Tie as tie
 
 -- the arrays are as long as declared
 buses-long : (c : tie.Start) → length c.args.t1.buses ≡ most F
-buses-long c = unmapped _ c.args.t1.buses (most F) c.well-formed.0.1.1.0.1.0.1
+buses-long c = unmapped _ c.args.t1.buses (most F) c.well_formed.0.1.1.0.1.0.1
 
 lines_long : (c : tie.Start) → length c.args.t1.lines ≡ most L
-lines_long c = unmapped _ c.args.t1.lines (most L) c.well-formed.0.1.1.1.1.0.1.0.1
+lines_long c = unmapped _ c.args.t1.lines (most L) c.well_formed.0.1.1.1.1.0.1.0.1
 
 whole : (c : tie.After-reference) → Whole c.before.before.before.args.t1 c.reference.result
 whole c =
@@ -30,10 +30,10 @@ then : (c : tie.After-reference) {b : Bool} → Decides b (AgreeFrom c.before.be
 then c d = settles _ _ _ c.reference.ensures d
 
 returns : tie.Need-returns
-returns c = let l = lines_long c.before in decides-true (lineless _ _ (omega arith) c.if1.true)
+returns c = let l = lines_long c.before in decides_true (lineless _ _ (omega arith) c.if1.true)
 
 returns-2 : tie.Need-returns-2
-returns-2 c = let l = buses-long c.before.before in decides-true (busless _ _ (omega arith) c.if2.true)
+returns-2 c = let l = buses-long c.before.before in decides_true (busless _ _ (omega arith) c.if2.true)
 
 reference-requires : tie.Need-reference-requires
 reference-requires c κs = search rules
@@ -46,7 +46,7 @@ bus-next-requires c κs = search rules
 
 returns-3 : tie.Need-returns-3
 returns-3 c =
-    then c.before.before.before (bus-fails _ _ (whole c.before.before.before) _ _ _ _ (omega arith) (refuses c.before.bus-next.ensures c.if3.true (λ a. a)))
+    then c.before.before.before (bus_fails _ _ (whole c.before.before.before) _ _ _ _ (omega arith) (refuses c.before.bus-next.ensures c.if3.true (λ a. a)))
 
 element-copy-out-l : tie.Need-element-copy-out-l
 element-copy-out-l c = search rules

@@ -6,20 +6,20 @@ use native.Mathlib.Omega.{arith}
 use lib.ListN.{get_or}
 use borrow.Author.Rules.{rules}
 use Rattle.law.specs.Words.{pick}
-use Rattle.fewest.specs.Below.{anyBelow, any-start, any_next}
-use Rattle.fewest.specs.Plan.{holds, anyIn}
+use Rattle.fewest.specs.Below.{any_below, any_start, any_next}
+use Rattle.fewest.specs.Plan.{holds, any_in}
 use Rattle.planner.proofs.any_in.Statement.{statement}
 use Rattle.planner.proofs.any_in.Tie as tie
 
 abbrev invariant-loop : tie.invariant-loop
 invariant-loop present wanted test first count some₀ q₀ some q =
-    (q ≤ count) × (some ≡ anyBelow q (λ i. holds test (get_or present (first + i) 0) (get_or wanted (first + i) 0)))
+    (q ≤ count) × (some ≡ any_below q (λ i. holds test (get_or present (first + i) 0) (get_or wanted (first + i) 0)))
 
 abbrev decreases-loop : tie.decreases-loop
 decreases-loop present wanted test first count some₀ q₀ some q = count - q
 
 loop-holds : tie.Need-loop-init invariant-loop decreases-loop
-loop-holds c = (omega arith, sym (any-start _))
+loop-holds c = (omega arith, sym (any_start _))
 
 add-k : tie.Need-overflow-add-k invariant-loop decreases-loop
 add-k c = omega arith
@@ -49,7 +49,7 @@ loop-again c =
     (omega arith, c.either.ensures ∙ ap₂ (λ (x y : Bool). pick x true y) c.before.tested.ensures l.invariant.1 ∙ sym (any_next l.q (λ i. holds a.test (get_or a.present.now (a.first + i) 0) (get_or a.wanted.now (a.first + i) 0))))
 
 returns : tie.Need-returns invariant-loop decreases-loop
-unfolding anyIn
+unfolding any_in
 returns c =
     let a = c.before.before.before.before.args in
     let l = c.before.loop in

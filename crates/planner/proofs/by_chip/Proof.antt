@@ -1,5 +1,5 @@
 -- `planner::by_chip`: the two numbers compared. Assumes nothing.
-use Rattle.fewest.specs.Plan.{byChip}
+use Rattle.fewest.specs.Plan.{by_chip}
 use lib.Dec.{ltb}
 use Prim.Native.Nat.{ℕ}
 use mathlib.Core.Bool.{Bool}
@@ -15,7 +15,7 @@ count-all-requires-2 : tie.Need-count-all-requires-2
 count-all-requires-2 c κs = search rules
 
 returns : tie.Need-returns
-unfolding byChip
+unfolding by_chip
 returns c = ap₂ (λ (x y : ℕ). ltb x y) c.before.count-all.ensures c.count-all2.ensures
 
 pub by-chip-spec : {M : Type 1} → statement M

@@ -1,6 +1,6 @@
 -- `planner::count_rising`: of the sectors passed, `count` is the number. Assumes nothing.
-use Rattle.fewest.specs.Plan.{inSector}
-use Rattle.fewest.specs.Below.{one, countBelow, sum-start, sum_more}
+use Rattle.fewest.specs.Plan.{in_sector}
+use Rattle.fewest.specs.Below.{one, count_below, sum_start, sum_more}
 use Rattle.fewest.specs.declared.Test.TheVariants.{Rises}
 use borrow.Author.Rules.{rules}
 use native.Mathlib.Omega.{arith}
@@ -10,13 +10,13 @@ use Rattle.planner.proofs.count_rising.Statement.{statement}
 use Rattle.planner.proofs.count_rising.Tie as tie
 
 abbrev invariant-loop : tie.invariant-loop
-invariant-loop present wanted count₀ s₀ count s = (s ≤ 4) × (count ≤ s) × (count ≡ countBelow s (inSector present wanted Rises))
+invariant-loop present wanted count₀ s₀ count s = (s ≤ 4) × (count ≤ s) × (count ≡ count_below s (in_sector present wanted Rises))
 
 abbrev decreases-loop : tie.decreases-loop
 decreases-loop present wanted count₀ s₀ count s = 4 - s
 
 loop-holds : tie.Need-loop-init invariant-loop decreases-loop
-loop-holds c = (omega arith, omega arith, sym (sum-start _))
+loop-holds c = (omega arith, omega arith, sym (sum_start _))
 
 in-sector-requires : tie.Need-in-sector-requires invariant-loop decreases-loop
 in-sector-requires c κs = (omega arith, omega arith, omega arith)
@@ -36,8 +36,8 @@ loop-less c = omega arith
 loop-again : tie.Need-loop-preserved invariant-loop decreases-loop
 loop-again c = let a = (c.before).before.before.before.before.before.args in
     let l = (c.before).before.before.loop in
-    let f : ℕ → ℕ = λ i. one (inSector a.present.now a.wanted.now Rises i) in
-    let e : c.one-if.result ≡ f l.s = c.one-if.ensures.0 ∙ ap one c.before.in-sector.ensures in
+    let f : ℕ → ℕ = λ i. one (in_sector a.present.now a.wanted.now Rises i) in
+    let e : c.one-if.result ≡ f l.s = c.one-if.ensures.0 ∙ ap one c.before.in_sector_lem.ensures in
     (omega arith, omega arith, omega (arith, l.inv.2, e, sum_more l.s f))
 
 returns : tie.Need-returns invariant-loop decreases-loop

@@ -1,5 +1,5 @@
 -- `planner::fill_page`: the first q places have their bytes. Assumes nothing.
-use Rattle.planner.proofs.Laying.{page-filled}
+use Rattle.planner.proofs.Laying.{page_filled}
 use Rattle.law.specs.Places.{done, more, all}
 use lib.ListN.{length, get_or, length-set}
 use native.Mathlib.Omega.{arith}
@@ -51,7 +51,7 @@ returns c = let a = (c.before).before.args in
     let l = c.before.loop in
     let p = (c.before).before.requires in
     l.invariant.2 ∙ all (λ i x. get_or a.wanted.now (256 * a.n + i) 0) l.q a.part.now (omega arith)
-    ∙ page-filled a.wanted.now a.part.now a.n p.0 p.1 p.2
+    ∙ page_filled a.wanted.now a.part.now a.n p.0 p.1 p.2
 
 pub fill-page-spec : {M : Type 1} → statement M
 fill-page-spec =

@@ -2,7 +2,7 @@
 use borrow.Author.Tests.{eq-eqb, ne_eqb}
 use borrow.Author.Rules.{rules}
 use native.Mathlib.Omega.{arith}
-use Rattle.planner.proofs.Ending.{status-fits}
+use Rattle.planner.proofs.Ending.{status_fits_lem}
 use Rattle.planner.proofs.fits.Statement.{statement}
 use Rattle.planner.proofs.fits.Tie as tie
 
@@ -21,7 +21,7 @@ status-ok-requires c κs = search rules
 returns-4 : tie.Need-returns-4
 returns-4 c =
     let a = c.before.before.before.before.before.before.args in
-    simp (status-fits a.status c.status-ok.result (omega arith) c.status-ok.ensures, eq-eqb _ _ c.before.if3.false, eq-eqb _ _ c.before.before.if2.false, eq-eqb _ _ c.before.before.before.if1.false)
+    simp (status_fits_lem a.status c.status-ok.result (omega arith) c.status-ok.ensures, eq-eqb _ _ c.before.if3.false, eq-eqb _ _ c.before.before.if2.false, eq-eqb _ _ c.before.before.before.if1.false)
 
 pub fits-spec : {M : Type 1} → statement M
 fits-spec = tie.close (tie.spec returns returns-2 returns-3 status-ok-requires returns-4)

@@ -13,7 +13,7 @@ in-sector-requires : tie.Need-in-sector-requires
 in-sector-requires c κs = search rules
 
 returns-2 : tie.Need-returns-2
-returns-2 c = simp (c.before.if1.false, c.in-sector.ensures)
+returns-2 c = simp (c.before.if1.false, c.in_sector_lem.ensures)
 
 pub is-erased-spec : {M : Type 1} → statement M
 is-erased-spec = tie.close (tie.spec is-locked-requires returns in-sector-requires returns-2)

@@ -1,9 +1,9 @@
 -- `planner::lay_by`: too short, or laid. Assumes nothing.
 use borrow.Author.Rules.{rules}
-use Rattle.planner.proofs.Ending.{too_short, long-enough}
-use Rattle.fewest.proofs.Sizes.{size-plan}
-use Rattle.fewest.proofs.Attains.{length-plan}
-use Rattle.fewest.specs.Plan.{planBy}
+use Rattle.planner.proofs.Ending.{too_short, long_enough}
+use Rattle.fewest.proofs.Sizes.{size_plan}
+use Rattle.fewest.proofs.Attains.{length_plan}
+use Rattle.fewest.specs.Plan.{plan_by}
 use lib.ListN.{length}
 use Prim.Native.Nat.{◌+◌}
 use mathlib.Core.Path.{◌≡◌, ◌∙◌, sym}
@@ -29,13 +29,13 @@ add-if1 c = omega (arith, c.before.count-erases.ensures.1, c.count-programs.ensu
 returns : tie.Need-returns
 returns c =
     let a = c.before.before.before.before.before.before.args in
-    let size = size-plan a.present.now a.wanted.now a.status a.chip c.before.before.before.before.before.before.requires.1 in
-    too_short (planBy a.present.now a.wanted.now a.status a.chip) a.list.now (omega (arith, size, c.before.before.count-erases.ensures.0, c.before.count-programs.ensures.0, c.if1.true))
+    let size = size_plan a.present.now a.wanted.now a.status a.chip c.before.before.before.before.before.before.requires.1 in
+    too_short (plan_by a.present.now a.wanted.now a.status a.chip) a.list.now (omega (arith, size, c.before.before.count-erases.ensures.0, c.before.count-programs.ensures.0, c.if1.true))
 
 put-plan-requires : tie.Need-put-plan-requires
 put-plan-requires c κs =
     let a = c.before.before.before.before.before.before.before.args in
-    let size = size-plan a.present.now a.wanted.now a.status a.chip c.before.before.before.before.before.before.before.requires.1 in
+    let size = size_plan a.present.now a.wanted.now a.status a.chip c.before.before.before.before.before.before.before.requires.1 in
     (c.before.before.before.before.before.before.before.requires.0, c.before.before.before.before.before.before.before.requires.1, omega (arith, size, c.before.before.before.count-erases.ensures.0, c.before.before.count-programs.ensures.0, c.before.if1.false))
 
 add-number : tie.Need-overflow-add-number
@@ -50,10 +50,10 @@ same_length c = search rules
 returns-2 : tie.Need-returns-2
 returns-2 c =
     let a = c.before.before.before.before.before.before.before.before.before.before.args in
-    let size = size-plan a.present.now a.wanted.now a.status a.chip c.before.before.before.before.before.before.before.before.before.before.requires.1 in
-    long-enough (planBy a.present.now a.wanted.now a.status a.chip) a.list.now c.before.before.put-plan.new.0 (c.before.before.before.before.before.before.count-erases.result + c.before.before.before.before.before.count-programs.result)
+    let size = size_plan a.present.now a.wanted.now a.status a.chip c.before.before.before.before.before.before.before.before.before.before.requires.1 in
+    long_enough (plan_by a.present.now a.wanted.now a.status a.chip) a.list.now c.before.before.put-plan.new.0 (c.before.before.before.before.before.before.count-erases.result + c.before.before.before.before.before.count-programs.result)
     (omega (arith, size, c.before.before.before.before.before.before.count-erases.ensures.0, c.before.before.before.before.before.count-programs.ensures.0, c.before.before.before.before.if1.false))
-    (omega (arith, length-plan a.status a.present.now a.wanted.now a.chip, c.before.before.before.before.before.before.count-erases.ensures.0, c.before.before.before.before.before.count-programs.ensures.0))
+    (omega (arith, length_plan a.status a.present.now a.wanted.now a.chip, c.before.before.before.before.before.before.count-erases.ensures.0, c.before.before.before.before.before.count-programs.ensures.0))
     c.before.before.put-plan.ensures
 
 pub lay-by-spec : {M : Type 1} → statement M

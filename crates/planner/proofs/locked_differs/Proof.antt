@@ -11,7 +11,7 @@ in-sector-requires : tie.Need-in-sector-requires
 in-sector-requires c κs = search rules
 
 returns : tie.Need-returns
-returns c = simp (c.in-sector.ensures, via c.before.before.is-locked.ensures c.before.if1.true)
+returns c = simp (c.in_sector_lem.ensures, via c.before.before.is-locked.ensures c.before.if1.true)
 
 returns-2 : tie.Need-returns-2
 returns-2 c = simp (via c.before.is-locked.ensures c.if1.false)

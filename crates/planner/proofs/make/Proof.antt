@@ -1,6 +1,6 @@
 -- `planner::make`: refusals 14 and 15, then the plan. Assumes nothing.
-use Rattle.planner.proofs.Ending.{unfit, locked, goes, fit-lengths}
-use Rattle.fewest.specs.Plan.{madeAs}
+use Rattle.planner.proofs.Ending.{unfit, locked, goes, fit_lengths}
+use Rattle.fewest.specs.Plan.{made_as}
 use Rattle.law.specs.Choice.{via}
 use lib.ListN.{length}
 use borrow.Author.Rules.{rules}
@@ -19,7 +19,7 @@ returns c =
 differs-locked-requires : tie.Need-differs-locked-requires
 differs-locked-requires c κs =
     let a = c.before.before.before.before.before.args in
-    fit-lengths a.status (length a.present.now) (length a.wanted.now) a.result (via c.before.fits2.ensures (not-false _ c.if1.false))
+    fit_lengths a.status (length a.present.now) (length a.wanted.now) a.result (via c.before.fits2.ensures (not-false _ c.if1.false))
 
 returns-2 : tie.Need-returns-2
 returns-2 c =
@@ -29,12 +29,12 @@ returns-2 c =
 by-chip-requires : tie.Need-by-chip-requires
 by-chip-requires c κs =
     let a = c.before.before.before.before.before.before.before.args in
-    fit-lengths a.status (length a.present.now) (length a.wanted.now) a.result (via c.before.before.before.fits2.ensures (not-false _ c.before.before.if1.false))
+    fit_lengths a.status (length a.present.now) (length a.wanted.now) a.result (via c.before.before.before.fits2.ensures (not-false _ c.before.before.if1.false))
 
 lay-by-requires : tie.Need-lay-by-requires
 lay-by-requires c κs =
     let a = c.before.before.before.before.before.before.before.before.before.args in
-    fit-lengths a.status (length a.present.now) (length a.wanted.now) a.result (via c.before.before.before.before.before.fits2.ensures (not-false _ c.before.before.before.before.if1.false))
+    fit_lengths a.status (length a.present.now) (length a.wanted.now) a.result (via c.before.before.before.before.before.fits2.ensures (not-false _ c.before.before.before.before.if1.false))
 
 same_length : tie.Need-same-length
 same_length c = search rules
@@ -43,8 +43,8 @@ returns-3 : tie.Need-returns-3
 returns-3 c =
     let a = c.before.before.before.before.before.before.before.before.before.before.before.before.args in
     let r = c.before.before.lay-by.result in
-    goes a.present.now a.wanted.now a.status a.list.now a.result (madeAs r.answer r.number c.before.before.lay-by.new.0) c.before.before.before.before.by-chip.result
-    (via c.before.before.before.before.before.before.before.before.fits2.ensures (not-false _ c.before.before.before.before.before.before.before.if1.false)) (via c.before.before.before.before.before.before.differs-locked.ensures c.before.before.before.before.before.if2.false) c.before.before.before.before.by-chip.ensures c.before.before.lay-by.ensures
+    goes a.present.now a.wanted.now a.status a.list.now a.result (made_as r.answer r.number c.before.before.lay-by.new.0) c.before.before.before.before.by_chip_lem.result
+    (via c.before.before.before.before.before.before.before.before.fits2.ensures (not-false _ c.before.before.before.before.before.before.before.if1.false)) (via c.before.before.before.before.before.before.differs-locked.ensures c.before.before.before.before.before.if2.false) c.before.before.before.before.by_chip_lem.ensures c.before.before.lay-by.ensures
 
 pub make_spec : {M : Type 1} → statement M
 make_spec =

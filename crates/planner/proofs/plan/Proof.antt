@@ -1,5 +1,5 @@
 -- `planner::plan`: the plan with its result. Assumes nothing.
-use Rattle.planner.proofs.Ending.{plans-as}
+use Rattle.planner.proofs.Ending.{plans_as}
 use borrow.Author.Rules.{rules}
 use native.Mathlib.Omega.{arith}
 use Rattle.planner.proofs.plan.Statement.{statement}
@@ -24,7 +24,7 @@ returns : tie.Need-returns
 returns c =
     let a = c.before.before.before.before.before.before.before.before.before.before.before.before.before.args in
     let m = c.before.before.before.before.before.before.before.make in
-    plans-as a.present.now a.wanted.now a.status (omega arith) (λ k. omega (arith, c.before.before.before.before.before.before.before.before.before.before.before.before.shared-slice-known.given k)) (λ k. omega (arith, c.before.before.before.before.before.before.before.before.before.before.before.shared-slice-known2.given k))
+    plans_as a.present.now a.wanted.now a.status (omega arith) (λ k. omega (arith, c.before.before.before.before.before.before.before.before.before.before.before.before.shared-slice-known.given k)) (λ k. omega (arith, c.before.before.before.before.before.before.before.before.before.before.before.shared-slice-known2.given k))
     a.list.now a.result.now m.new.0 c.before.before.put-plan-result.new.0 m.result.answer c.before.before.before.before.plan-answer-number.result m.result.number c.before.before.before.before.plan-answer-number.ensures m.ensures c.before.before.put-plan-result.ensures
 
 pub plan-spec : {M : Type 1} → statement M

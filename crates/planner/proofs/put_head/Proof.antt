@@ -1,5 +1,5 @@
 -- `planner::put_head`: four stores are a run of stores. Assumes nothing.
-use Rattle.planner.proofs.Laying.{four-set}
+use Rattle.planner.proofs.Laying.{four_set}
 use lib.ListN.{length-set}
 use native.Mathlib.Omega.{arith}
 use borrow.Author.Rules.{rules}
@@ -40,7 +40,7 @@ same_length : tie.Need-same-length
 same_length c = search rules
 
 returns : tie.Need-returns
-returns c = four-set c.args.list.now c.args.at c.args.kind _ _ _
+returns c = four_set c.args.list.now c.args.at c.args.kind _ _ _
 
 pub put-head-spec : {M : Type 1} → statement M
 put-head-spec =

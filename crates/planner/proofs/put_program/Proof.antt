@@ -1,5 +1,5 @@
 -- `planner::put_program`: the head, then the page in the part behind it. Assumes nothing.
-use Rattle.planner.proofs.Laying.{program-laid}
+use Rattle.planner.proofs.Laying.{program_laid}
 use native.Mathlib.Omega.{arith}
 use Prim.Native.Nat.{◌+◌, ◌-◌}
 use borrow.Author.Rules.{rules}
@@ -36,8 +36,8 @@ same_length c = search rules
 returns : tie.Need-returns
 returns c = let a = (c.before).before.before.before.before.before.before.before.before.before.args in
     let p = (c.before).before.before.before.before.before.before.before.before.before.requires in
-    program-laid a.list.now (c.before).before.before.before.before.before.put-head.new.0 c.before.before.fill-page.new.0 a.wanted.now a.n a.at (((a.at + 4) + 256) - (a.at + 4))
-    (c.before).before.before.before.before.before.put-head.ensures c.before.before.fill-page.ensures p.1 p.2 (omega arith) p.0
+    program_laid a.list.now (c.before).before.before.before.before.before.put_head.new.0 c.before.before.fill-page.new.0 a.wanted.now a.n a.at (((a.at + 4) + 256) - (a.at + 4))
+    (c.before).before.before.before.before.before.put_head.ensures c.before.before.fill-page.ensures p.1 p.2 (omega arith) p.0
 
 pub put-program-spec : {M : Type 1} → statement M
 put-program-spec =

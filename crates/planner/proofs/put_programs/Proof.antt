@@ -1,11 +1,11 @@
 -- `planner::put_programs`: the entries of the sectors passed are laid. Assumes nothing.
-use Rattle.planner.proofs.Laying.{laidAt, laidSo, lay-start, lay-none, lay-room, lay_at, lay-so, lay-length, by-sectors}
-use Rattle.fewest.specs.Plan.{testIn, sectorPrograms, programs}
-use Rattle.fewest.specs.Below.{joinedBelow}
-use Rattle.fewest.specs.Fewest.{spelledList}
+use Rattle.planner.proofs.Laying.{laid_at, laid_so, lay_start, lay_none, lay_room, lay_at, lay_so, lay_length, by_sectors}
+use Rattle.fewest.specs.Plan.{test_in, sector_programs, programs}
+use Rattle.fewest.specs.Below.{joined_below}
+use Rattle.fewest.specs.Fewest.{spelled_list}
 use Rattle.fewest.specs.Entries.{Entry}
 use Rattle.fewest.specs.declared.Test.{Test}
-use Rattle.page.specs.Geometry.{flashSectors}
+use Rattle.page.specs.Geometry.{flash_sectors}
 use lib.Seq.{sets}
 use lib.ListN.{length}
 use native.Mathlib.Omega.{arith}
@@ -17,16 +17,16 @@ use Rattle.planner.proofs.put_programs.Tie as tie
 
 abbrev invariant-loop : tie.invariant-loop
 invariant-loop list₀ first present wanted status chip at₀ s₀ list at s =
-    (s ≤ flashSectors) × (length list ≡ length list₀) × laidAt (λ i. sectorPrograms present wanted (testIn present wanted status chip i) i) first list₀ s at × laidSo (λ i. sectorPrograms present wanted (testIn present wanted status chip i) i) first list₀ s list
+    (s ≤ flash_sectors) × (length list ≡ length list₀) × laid_at (λ i. sector_programs present wanted (test_in present wanted status chip i) i) first list₀ s at × laid_so (λ i. sector_programs present wanted (test_in present wanted status chip i) i) first list₀ s list
 
 abbrev decreases-loop : tie.decreases-loop
-decreases-loop list₀ first present wanted status chip at₀ s₀ list at s = flashSectors - s
+decreases-loop list₀ first present wanted status chip at₀ s₀ list at s = flash_sectors - s
 
 loop-holds : tie.Need-loop-init invariant-loop decreases-loop
 loop-holds c =
     let a = c.before.before.before.args in
-    let f : ℕ → List Entry = λ i. sectorPrograms a.present.now a.wanted.now (testIn a.present.now a.wanted.now a.status a.chip i) i in
-    (omega arith, refl, lay-start f a.first a.list.now, lay-none f a.first a.list.now)
+    let f : ℕ → List Entry = λ i. sector_programs a.present.now a.wanted.now (test_in a.present.now a.wanted.now a.status a.chip i) i in
+    (omega arith, refl, lay_start f a.first a.list.now, lay_none f a.first a.list.now)
 
 test-in-requires : tie.Need-test-in-requires invariant-loop decreases-loop
 test-in-requires c κs = (omega arith, omega arith, omega arith)
@@ -36,13 +36,13 @@ put-sector-programs-requires c κs =
     let a = c.before.before.before.before.before.before.before.args in
     let l = c.before.before.before.loop in
     let p = c.before.before.before.before.before.before.before.requires in
-    let all = ap (λ (y : List Entry). length (spelledList y)) (by-sectors a.present.now a.wanted.now a.status a.chip) in (
+    let all = ap (λ (y : List Entry). length (spelled_list y)) (by_sectors a.present.now a.wanted.now a.status a.chip) in (
       p.0,
       p.1,
       omega arith,
-      lay-room (λ i. sectorPrograms a.present.now a.wanted.now (testIn a.present.now a.wanted.now a.status a.chip i) i) a.first a.list.now flashSectors l.s l.at l.list
-          (sectorPrograms a.present.now a.wanted.now c.before.test_in.result l.s)
-          (omega arith) (ap (λ (t : Test). sectorPrograms a.present.now a.wanted.now t l.s) c.before.test_in.ensures) l.invariant.2 (omega (arith, all, p.2)) l.invariant.1,
+      lay_room (λ i. sector_programs a.present.now a.wanted.now (test_in a.present.now a.wanted.now a.status a.chip i) i) a.first a.list.now flash_sectors l.s l.at l.list
+          (sector_programs a.present.now a.wanted.now c.before.test_in.result l.s)
+          (omega arith) (ap (λ (t : Test). sector_programs a.present.now a.wanted.now t l.s) c.before.test_in.ensures) l.invariant.2 (omega (arith, all, p.2)) l.invariant.1,
     )
 
 add-s : tie.Need-overflow-add-s invariant-loop decreases-loop
@@ -56,13 +56,13 @@ loop-again c =
     let a = c.before.before.before.before.before.before.before.before.before.before.args in
     let l = c.before.before.before.before.before.before.loop in
     let e = c.before.before.put-sector-programs.ensures in
-    let f : ℕ → List Entry = λ i. sectorPrograms a.present.now a.wanted.now (testIn a.present.now a.wanted.now a.status a.chip i) i in
-    let some : List Entry = sectorPrograms a.present.now a.wanted.now c.before.before.before.before.test_in.result l.s in
-    let x = ap (λ (t : Test). sectorPrograms a.present.now a.wanted.now t l.s) c.before.before.before.before.test_in.ensures in (
+    let f : ℕ → List Entry = λ i. sector_programs a.present.now a.wanted.now (test_in a.present.now a.wanted.now a.status a.chip i) i in
+    let some : List Entry = sector_programs a.present.now a.wanted.now c.before.before.before.before.test_in.result l.s in
+    let x = ap (λ (t : Test). sector_programs a.present.now a.wanted.now t l.s) c.before.before.before.before.test_in.ensures in (
       omega arith,
-      lay-length f a.first a.list.now l.at l.list c.before.before.put-sector-programs.new.0 some e.0 l.invariant.1,
+      lay_length f a.first a.list.now l.at l.list c.before.before.put-sector-programs.new.0 some e.0 l.invariant.1,
       lay_at f a.first a.list.now l.s l.at c.before.before.put-sector-programs.result some x l.invariant.2 e.1,
-      lay-so f a.first a.list.now l.s l.at l.list c.before.before.put-sector-programs.new.0 some x l.invariant.2 l.invariant.3 e.0,
+      lay_so f a.first a.list.now l.s l.at l.list c.before.before.put-sector-programs.new.0 some x l.invariant.2 l.invariant.3 e.0,
     )
 
 same_length : tie.Need-same-length invariant-loop decreases-loop
@@ -72,9 +72,9 @@ returns : tie.Need-returns invariant-loop decreases-loop
 returns c =
     let a = c.before.before.before.before.before.args in
     let l = c.before.loop in
-    let e : l.s ≡ flashSectors = omega arith in
+    let e : l.s ≡ flash_sectors = omega arith in
     let laid = rw e at l.invariant.3 in
-    laid ∙ ap (λ (y : List Entry). sets a.list.now a.first (spelledList y)) (by-sectors a.present.now a.wanted.now a.status a.chip)
+    laid ∙ ap (λ (y : List Entry). sets a.list.now a.first (spelled_list y)) (by_sectors a.present.now a.wanted.now a.status a.chip)
 
 pub put-programs-spec : {M : Type 1} → statement M
 put-programs-spec =

@@ -1,7 +1,7 @@
 -- `planner::put_sector_erases`: the entries of the sectors passed are laid. Assumes nothing.
-use Rattle.planner.proofs.Laying.{laidAt, laidSo, lay-start, lay-none, lay-room, lay_at, lay-so, lay-length}
-use Rattle.fewest.specs.Plan.{eraseOf, erases}
-use Rattle.fewest.specs.Entries.{sectorErase}
+use Rattle.planner.proofs.Laying.{laid_at, laid_so, lay_start, lay_none, lay_room, lay_at, lay_so, lay_length}
+use Rattle.fewest.specs.Plan.{erase_of, erases}
+use Rattle.fewest.specs.Entries.{sector_erase}
 use Rattle.law.specs.Words.{pick}
 use lib.ListN.{length}
 use native.Mathlib.Omega.{arith}
@@ -13,14 +13,14 @@ use Rattle.planner.proofs.put_sector_erases.Statement.{statement}
 use Rattle.planner.proofs.put_sector_erases.Tie as tie
 
 abbrev invariant-loop : tie.invariant-loop
-invariant-loop list₀ present wanted at₀ s₀ list at s = (s ≤ 4) × (length list ≡ length list₀) × laidAt (eraseOf present wanted) 0 list₀ s at × laidSo (eraseOf present wanted) 0 list₀ s list
+invariant-loop list₀ present wanted at₀ s₀ list at s = (s ≤ 4) × (length list ≡ length list₀) × laid_at (erase_of present wanted) 0 list₀ s at × laid_so (erase_of present wanted) 0 list₀ s list
 
 abbrev decreases-loop : tie.decreases-loop
 decreases-loop list₀ present wanted at₀ s₀ list at s = 4 - s
 
 loop-holds : tie.Need-loop-init invariant-loop decreases-loop
 loop-holds c = let a = (c.before).before.before.args in
-    (omega arith, refl, lay-start (eraseOf a.present.now a.wanted.now) 0 a.list.now, lay-none (eraseOf a.present.now a.wanted.now) 0 a.list.now)
+    (omega arith, refl, lay_start (erase_of a.present.now a.wanted.now) 0 a.list.now, lay_none (erase_of a.present.now a.wanted.now) 0 a.list.now)
 
 in-sector-requires : tie.Need-in-sector-requires invariant-loop decreases-loop
 in-sector-requires c κs = (omega arith, omega arith, omega arith)
@@ -30,8 +30,8 @@ unfolding erases
 put-erase-if-requires c κs = let a = (c.before).before.before.before.before.before.before.args in
     let l = (c.before).before.before.loop in (
       omega arith,
-      lay-room (eraseOf a.present.now a.wanted.now) 0 a.list.now 4 l.s l.at l.list (pick c.before.in-sector.result (sectorErase (suc l.s) ∷ []) [])
-          (omega arith) (ap (λ (b : Bool). pick b (sectorErase (suc l.s) ∷ []) []) c.before.in-sector.ensures) l.inv.2 (omega (arith, (c.before).before.before.before.before.before.before.requires.2)) l.inv.1,
+      lay_room (erase_of a.present.now a.wanted.now) 0 a.list.now 4 l.s l.at l.list (pick c.before.in_sector_lem.result (sector_erase (suc l.s) ∷ []) [])
+          (omega arith) (ap (λ (b : Bool). pick b (sector_erase (suc l.s) ∷ []) []) c.before.in_sector_lem.ensures) l.inv.2 (omega (arith, (c.before).before.before.before.before.before.before.requires.2)) l.inv.1,
     )
 
 add-s : tie.Need-overflow-add-s invariant-loop decreases-loop
@@ -44,11 +44,11 @@ loop-again : tie.Need-loop-preserved invariant-loop decreases-loop
 loop-again c = let a = (c.before).before.before.before.before.before.before.before.before.before.args in
     let l = (c.before).before.before.before.before.before.loop in
     let e = c.before.before.put-erase-if.ensures in
-    let x = ap (λ (b : Bool). pick b (sectorErase (suc l.s) ∷ []) []) (c.before).before.before.before.in-sector.ensures in (
+    let x = ap (λ (b : Bool). pick b (sector_erase (suc l.s) ∷ []) []) (c.before).before.before.before.in_sector_lem.ensures in (
       omega arith,
-      lay-length (eraseOf a.present.now a.wanted.now) 0 a.list.now l.at l.list c.before.before.put-erase-if.new.0 (pick c.before.before.before.before.in-sector.result (sectorErase (suc l.s) ∷ []) []) e.0 l.inv.1,
-      lay_at (eraseOf a.present.now a.wanted.now) 0 a.list.now l.s l.at c.before.before.put-erase-if.result (pick (c.before).before.before.before.in-sector.result (sectorErase (suc l.s) ∷ []) []) x l.inv.2 e.1,
-      lay-so (eraseOf a.present.now a.wanted.now) 0 a.list.now l.s l.at l.list c.before.before.put-erase-if.new.0 (pick (c.before).before.before.before.in-sector.result (sectorErase (suc l.s) ∷ []) []) x l.inv.2 l.inv.3 e.0,
+      lay_length (erase_of a.present.now a.wanted.now) 0 a.list.now l.at l.list c.before.before.put-erase-if.new.0 (pick c.before.before.before.before.in_sector_lem.result (sector_erase (suc l.s) ∷ []) []) e.0 l.inv.1,
+      lay_at (erase_of a.present.now a.wanted.now) 0 a.list.now l.s l.at c.before.before.put-erase-if.result (pick (c.before).before.before.before.in_sector_lem.result (sector_erase (suc l.s) ∷ []) []) x l.inv.2 e.1,
+      lay_so (erase_of a.present.now a.wanted.now) 0 a.list.now l.s l.at l.list c.before.before.put-erase-if.new.0 (pick (c.before).before.before.before.in_sector_lem.result (sector_erase (suc l.s) ∷ []) []) x l.inv.2 l.inv.3 e.0,
     )
 
 same_length : tie.Need-same-length invariant-loop decreases-loop

@@ -3,7 +3,7 @@ use native.Mathlib.Omega.{arith}
 use mathlib.Core.Path.{◌≡◌, refl, sym, ap, ◌∙◌}
 use mathlib.Core.List.{List, ◌++◌}
 use lib.ListN.{length, get_or, set, take, drop, length-set}
-use Rattle.printing.proofs.Copying.{copy_more, copy-all}
+use Rattle.printing.proofs.Copying.{copy_more, copy_all}
 use Rattle.printing.proofs.copy.Statement.{statement}
 use Rattle.printing.proofs.copy.Tie as tie
 
@@ -38,7 +38,7 @@ same_length c = omega arith
 
 returns : tie.Need-returns invariant-loop decreases-loop
 returns c = let l = c.before.loop in
-    l.invariant.2 ∙ copy-all l.k c.before.before.args.from.now c.before.before.args.to.now (omega arith) (omega arith)
+    l.invariant.2 ∙ copy_all l.k c.before.before.args.from.now c.before.before.args.to.now (omega arith) (omega arith)
 
 pub copy_spec : {M : Type 1} → statement M
 copy_spec =

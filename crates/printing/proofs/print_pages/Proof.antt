@@ -1,4 +1,4 @@
-use Rattle.printing.proofs.Dumped.{prints-pages}
+use Rattle.printing.proofs.Dumped.{prints_pages}
 use borrow.Author.Rules.{rules}
 use Rattle.printing.proofs.print_pages.Statement.{statement}
 use Rattle.printing.proofs.print_pages.Tie as tie
@@ -28,7 +28,7 @@ same_length : tie.Need-same-length
 same_length c = search rules
 
 returns : tie.Need-returns
-returns c = prints-pages c.before.before.before.before.before.before.before.before.before.replay-dumps.ensures c.before.before.list-pages.ensures
+returns c = prints_pages c.before.before.before.before.before.before.before.before.before.replay-dumps.ensures c.before.before.list-pages.ensures
 
 pub print-pages-spec : {M : Type 1} → statement M
 print-pages-spec =

@@ -1,4 +1,4 @@
-use Rattle.printing.proofs.Dumped.{prints-records}
+use Rattle.printing.proofs.Dumped.{prints_records}
 use borrow.Author.Rules.{rules}
 use Rattle.printing.proofs.print_replay.Statement.{statement}
 use Rattle.printing.proofs.print_replay.Tie as tie
@@ -28,7 +28,7 @@ same_length : tie.Need-same-length
 same_length c = search rules
 
 returns : tie.Need-returns
-returns c = prints-records c.before.before.before.before.before.before.before.before.before.replay-dumps.ensures c.before.before.list.ensures
+returns c = prints_records c.before.before.before.before.before.before.before.before.before.replay-dumps.ensures c.before.before.list.ensures
 
 pub print-replay-spec : {M : Type 1} → statement M
 print-replay-spec =

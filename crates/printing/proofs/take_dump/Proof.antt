@@ -1,14 +1,14 @@
-use Rattle.printing.proofs.Lent.{no-dump, other-dump, sure-dump}
+use Rattle.printing.proofs.Lent.{no_dump, other_dump, sure_dump}
 use borrow.Author.Tests.{not-true, not-false}
 use borrow.Author.Rules.{rules}
 use Rattle.printing.proofs.take_dump.Statement.{statement}
 use Rattle.printing.proofs.take_dump.Tie as tie
 
 returns : tie.Need-returns
-returns c = no-dump _ _ _ _ (not-true _ c.if1.true)
+returns c = no_dump _ _ _ _ (not-true _ c.if1.true)
 
 returns-2 : tie.Need-returns-2
-returns-2 c = other-dump _ _ _ _ (not-false _ c.before.if1.false) c.if2.true
+returns-2 c = other_dump _ _ _ _ (not-false _ c.before.if1.false) c.if2.true
 
 copy-requires : tie.Need-copy-requires
 copy-requires c κs = search rules
@@ -23,7 +23,7 @@ same-length-2 : tie.Need-same-length-2
 same-length-2 c = search rules
 
 returns-3 : tie.Need-returns-3
-returns-3 c = sure-dump _ _ _ _ _ _ (not-false _ c.before.before.before.before.before.before.before.before.before.if1.false) c.before.before.before.before.before.before.before.before.if2.false c.before.before.before.before.before.before.copy.ensures c.before.before.make-sure.ensures
+returns-3 c = sure_dump _ _ _ _ _ _ (not-false _ c.before.before.before.before.before.before.before.before.before.if1.false) c.before.before.before.before.before.before.before.before.if2.false c.before.before.before.before.before.before.copy.ensures c.before.before.make-sure.ensures
 
 pub take-dump-spec : {M : Type 1} → statement M
 take-dump-spec =

@@ -1,4 +1,4 @@
-use Rattle.record.specs.Skeletons.{skeleton-right}
+use Rattle.record.specs.Skeletons.{skeleton_right}
 use borrow.Author.Rules.{rules}
 use Rattle.record.proofs.same_skeleton.Statement.{statement}
 use Rattle.record.proofs.same_skeleton.Tie as tie
@@ -13,7 +13,7 @@ same-numbers-requires : tie.Need-same-numbers-requires
 same-numbers-requires c κs = search rules
 
 returns : tie.Need-returns
-returns c = skeleton-right _ _ (rw (c.before.before.skeleton-numbers.ensures, c.before.skeleton-numbers2.ensures) at c.same_numbers.ensures)
+returns c = skeleton_right _ _ (rw (c.before.before.skeleton-numbers.ensures, c.before.skeleton-numbers2.ensures) at c.same_numbers.ensures)
 
 pub same-skeleton-spec : {M : Type 1} → statement M
 same-skeleton-spec =

@@ -65,8 +65,8 @@ use Rattle.text.proofs.moved_to.Symbol as moved-def
 use Rattle.text.proofs.moved_to.Symbol.{name as #moved-to}
 use Rattle.text.proofs.moved_to.Met as moved-thm
 use Rattle.stamps.specs.declared.Gathered.{Gathered}
-use Rattle.stamps.specs.Gathering.{is_of, gatheredRead, Gathers}
-use Rattle.stamps.proofs.Turns.{Gathering, gathering-starts, takes-on, takes-no-more}
+use Rattle.stamps.specs.Gathering.{is_of, gathered_read, Gathers}
+use Rattle.stamps.proofs.Turns.{Gathering, gathering_starts, takes_on, takes_no_more}
 use Rattle.stamps.specs.contracts.Gathered as G
 use Rattle.stamps.proofs.Gathered.TheLaws as G'
 use Rattle.stamps.specs.contracts.shares as shares
@@ -220,8 +220,8 @@ module _ {M : Type 1} {𝓤 : Ura M} (𝓛 : Logic 𝓤) (mem : Memory → SProp
       qed 𝓛 [] ∵ nothing ! $ owned ! S.the_row (Is S.the_row) (EL.makes S.the_type S'.the_plain 𝓛) r (u ∷ []) ir $ fjoin ! $
       owned ! G.the_row (Is G.the_row) (LL.makes G.the_type G'.the_plain 𝓛) g (G'.lowered g ∷ []) ig $ fjoin ! $ nothing ! $ join ! $ frame ! $ done !
 
-  takes-said : (g : Gathered) (r : ReadRecord) (m : Gathered) → ent 𝓤 (ensured 𝓛 takes.ended (takes.clauses 𝓛 mem run) tt (g, (r, tt)) tt m) (fact 𝓤 (m ≡ gatheredRead g r))
-  takes-said g r m = ex_e 𝓤 _ (λ ws. snd∗ 𝓤 (sem 𝓛 (lasts takes.ended tt (g, (r, tt)) ws)) (fact 𝓤 (m ≡ gatheredRead g r)))
+  takes-said : (g : Gathered) (r : ReadRecord) (m : Gathered) → ent 𝓤 (ensured 𝓛 takes.ended (takes.clauses 𝓛 mem run) tt (g, (r, tt)) tt m) (fact 𝓤 (m ≡ gathered_read g r))
+  takes-said g r m = ex_e 𝓤 _ (λ ws. snd∗ 𝓤 (sem 𝓛 (lasts takes.ended tt (g, (r, tt)) ws)) (fact 𝓤 (m ≡ gathered_read g r)))
 
   exits : (d : Reader) (u : Val) (g : Gathered) → Is G.the_row g (G'.lowered g ∷ []) → Gathers s.now t begun g → ent 𝓤 (⋆ 𝓛 (token ∷ ‵ (OwnD d u) ∷ ‵ Own ∷ [])) (Post (G'.lowered g))
   exits d u g is e =
@@ -280,10 +280,10 @@ module _ {M : Type 1} {𝓤 : Ura M} (𝓛 : Logic 𝓤) (mem : Memory → SProp
     is-r = is';
     text = e.0;
     reads = subst₂ (λ (z : Bor (List ℕ)) (k : ℕ). ReadsRecord z.now k r) e.0 e.1 e';
-    going = gathering-starts s.now t begun;
+    going = gathering_starts s.now t begun;
   }
 
-  abbrev moves : (x : State) (b : Bool) → Holds b → b ≡ is_of t x.r → (m : Gathered) (y₂ : Val) → m ≡ gatheredRead x.g x.r → Is G.the_row m (y₂ ∷ []) →
+  abbrev moves : (x : State) (b : Bool) → Holds b → b ≡ is_of t x.r → (m : Gathered) (y₂ : Val) → m ≡ gathered_read x.g x.r → Is G.the_row m (y₂ ∷ []) →
       (d' : Reader) (y₃ : Val) → (d'.text ≡ x.d.text) × (d'.at ≡ m.next) → Is (B (κ, tt)) d' (y₃ ∷ []) → (r' : ReadRecord) (y₄ : Val) → ReadsRecord d'.text.now d'.at r' → Is S.the_row r' (y₄ ∷ []) → State
   moves x b on e₁ m y₂ e₂ is₂ d' y₃ e₃ is₃ r' y₄ e₄ is₄ = record {
     g = m;
@@ -296,7 +296,7 @@ module _ {M : Type 1} {𝓤 : Ura M} (𝓛 : Logic 𝓤) (mem : Memory → SProp
     is-r = is₄;
     text = e₃.0 ∙ x.text;
     reads = subst₂ (λ (z : Bor (List ℕ)) (k : ℕ). ReadsRecord z.now k r') (e₃.0 ∙ x.text) e₃.1 e₄;
-    going = (takes-on s.now t begun x.g x.going x.r x.reads (held b _ on e₁) m e₂).0;
+    going = (takes_on s.now t begun x.g x.going x.r x.reads (held b _ on e₁) m e₂).0;
   }
 
   module _ (𝓣 : Tables 𝓤 H) (fm : FmC 𝓤 H 𝓛.laws 𝓣.C) (known-new : Triple 𝓤 (𝓣.C #reader-at) (New 𝓛 mem run)) (known_next : Triple 𝓤 (𝓣.C #next-record) (Next 𝓛 mem run))
@@ -331,7 +331,7 @@ module _ {M : Type 1} {𝓤 : Ura M} (𝓛 : Logic 𝓤) (mem : Memory → SProp
             use0 𝓛 (raw ((Takes 𝓛 mem run).pre (to-takes x.g x.r x.ur))) (goes-takes x.g x.r x.ur x.is-g x.is-r) $
             calls_at ! fm (Takes 𝓛 mem run) known-takes (to-takes x.g x.r x.ur) (and_then ! (load ! (from ! (stop !)) (look ! 16 refl)) (and_then ! (load ! (from ! (stop !)) (look ! 12 refl)) (no_more !))) (λ y₂.
             use1 𝓛 (later (some (λ (m : Gathered). (‵ ftrue ⊛ ‵ ((G.the_row).own_val m (y₂ ∷ []))) ⊛ raw (ensured 𝓛 takes.ended (takes.clauses 𝓛 mem run) tt (x.g, (x.r, tt)) tt m)))) (id⊢ 𝓤 _) $ await ! tt $ pick ! (λ m.
-            split ! $ move ! (1 ∷ []) $ use1 𝓛 (raw (fact 𝓤 (m ≡ gatheredRead x.g x.r))) (takes-said x.g x.r m) $ heard ! (m ≡ gatheredRead x.g x.r) (λ e₂. split ! $ drop ! $
+            split ! $ move ! (1 ∷ []) $ use1 𝓛 (raw (fact 𝓤 (m ≡ gathered_read x.g x.r))) (takes-said x.g x.r m) $ heard ! (m ≡ gathered_read x.g x.r) (λ e₂. split ! $ drop ! $
             facts ! G.the_row (Is G.the_row) (shows 𝓛 G.the_row) m (y₂ ∷ []) (λ is₂.
             land ! (from ! (stop !)) (store ! 15 refl ((LL.lawful G.the_type G'.the_laws 𝓛).typed m _ is₂).0) $
             rewrite ! 15 (λ (z : Val). ‵ (fat full_share G'.mir l₄ 0 z)) (lowered_is m y₂ is₂) refl $
@@ -349,7 +349,7 @@ module _ {M : Type 1} {𝓤 : Ura M} (𝓛 : Logic 𝓤) (mem : Memory → SProp
             split ! $ move ! (1 ∷ []) $ use1 𝓛 (raw (fact 𝓤 (ReadsRecord d'.text.now d'.at r'))) (next-said d' r') $ heard ! (ReadsRecord d'.text.now d'.at r') (λ e₄. split ! $ move ! (1 ∷ []) $
             facts ! S.the_row (Is S.the_row) (shows 𝓛 S.the_row) r' (y₄ ∷ []) (λ is₄.
             land_last ! (from ! (stop !)) (store ! 11 refl (read-typed r' y₄ is₄)) $ forget ! 3 refl $ forget ! 5 refl $ forget ! 7 refl $
-            again ! Nearer At x (moves x b on e₁ m y₂ e₂ is₂ d' y₃ e₃ is₃ r' y₄ e₄ is₄) (takes-on s.now t begun x.g x.going x.r x.reads (held b _ on e₁) m e₂).1))))))))))))
+            again ! Nearer At x (moves x b on e₁ m y₂ e₂ is₂ d' y₃ e₃ is₃ r' y₄ e₄ is₄) (takes_on s.now t begun x.g x.going x.r x.reads (held b _ on e₁) m e₂).1))))))))))))
 
         -- it is not: what is gathered is given back
         leaves : Holds (not b) → Sq 𝓛 Tested (runs 𝓣.C 𝓣.Λ En last (at_ret En Post))
@@ -358,7 +358,7 @@ module _ {M : Type 1} {𝓤 : Ura M} (𝓛 : Logic 𝓤) (mem : Memory → SProp
             returns ! (look ! 23 refl) $ forget ! 7 refl $ forget ! 11 refl $ forget ! 13 refl $ forget ! 15 refl $ forget ! 17 refl $ forget ! 19 refl $ forget ! 21 refl $ forget ! 23 refl $
             move ! (23 ∷ 24 ∷ []) $ free1 ! $ move ! (21 ∷ 22 ∷ []) $ free1 ! $ move ! (19 ∷ 20 ∷ []) $ free1 ! $ move ! (17 ∷ 18 ∷ []) $ free1 ! $ move ! (15 ∷ 16 ∷ []) $ free1 ! $ move ! (13 ∷ 14 ∷ []) $ free1 ! $
             move ! (11 ∷ 12 ∷ []) $ free1 ! $ move ! (9 ∷ 10 ∷ []) $ free1 ! $ move ! (7 ∷ 8 ∷ []) $ free1 ! $ move ! (5 ∷ 6 ∷ []) $ free1 ! $ move ! (3 ∷ 4 ∷ []) $ free1 ! $ free0 ! $
-            by ! (exits x.d x.ud x.g x.is-g (takes-no-more s.now t begun x.g x.going x.r x.reads (failed b _ off e₁)))
+            by ! (exits x.d x.ud x.g x.is-g (takes_no_more s.now t begun x.g x.going x.r x.reads (failed b _ off e₁)))
 
       turns : (x : State) → Sq 𝓛 (At x) (runs 𝓣.C 𝓣.Λ En turn (any_q (Turned x)))
       unfolding after_turn

@@ -15,7 +15,7 @@ count-more-requires-2 : tie.Need-count-more-requires-2
 count-more-requires-2 c κs = search rules
 
 returns : tie.Need-returns
-returns c = simp (c.before.before.before.before.before.keep-bus.ensures, c.before.before.keep-in-all.ensures, c.before.count-more.ensures, c.count-more2.ensures)
+returns c = simp (c.before.before.before.before.before.keep-bus.ensures, c.before.before.keep-in-all.ensures, c.before.count_more.ensures, c.count-more2.ensures)
 
 pub gather-eeprom-spec : {M : Type 1} → statement M
 gather-eeprom-spec =

@@ -1,5 +1,5 @@
-use Rattle.stamps.proofs.Judges.{judges-none, judges-some}
-use Rattle.stamps.proofs.Lone.{judges-alone}
+use Rattle.stamps.proofs.Judges.{judges_none, judges_some}
+use Rattle.stamps.proofs.Lone.{judges_alone}
 use borrow.Author.Rules.{rules}
 use Rattle.stamps.proofs.judge_at.Statement.{statement}
 use Rattle.stamps.proofs.judge_at.Tie as tie
@@ -17,7 +17,7 @@ none-gathered-requires : tie.Need-none-gathered-requires
 none-gathered-requires c κs = search rules
 
 returns : tie.Need-returns
-returns c = judges-none _ _ _ _ _ c.before.before.before.before.record-at.ensures _ c.before.none-gathered.ensures c.before.before.enum_told.given.1
+returns c = judges_none _ _ _ _ _ c.before.before.before.before.record-at.ensures _ c.before.none-gathered.ensures c.before.before.enum_told.given.1
 
 over-at-requires : tie.Need-over-at-requires
 over-at-requires c κs = search rules
@@ -27,7 +27,7 @@ found-alone-requires c κs = search rules
 
 returns-2 : tie.Need-returns-2
 returns-2 c =
-    judges-alone _ _ _ _ _ c.before.before.before.before.before.before.record-at.ensures _ _ c.before.before.before.before.first.given.1
+    judges_alone _ _ _ _ _ c.before.before.before.before.before.before.record-at.ensures _ _ c.before.before.before.before.first.given.1
     (c.before.before.over-at.ensures c.before.if1.true) _ c.found-alone.ensures
 
 none-gathered-requires-2 : tie.Need-none-gathered-requires-2
@@ -41,7 +41,7 @@ judge-requires c κs = search rules
 
 returns-3 : tie.Need-returns-3
 returns-3 c =
-    judges-some _ _ _ _ _ c.before.before.before.before.before.before.before.before.before.before.record-at.ensures _ c.before.before.before.before.none-gathered2.ensures
+    judges_some _ _ _ _ _ c.before.before.before.before.before.before.before.before.before.before.record-at.ensures _ c.before.before.before.before.none-gathered2.ensures
     _ _ c.before.before.before.before.before.before.before.before.first.given.1 _ c.before.before.before.gather.ensures _ c.judge.ensures
 
 pub judge-at-spec : {M : Type 1} → statement M

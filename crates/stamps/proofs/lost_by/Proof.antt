@@ -1,6 +1,6 @@
 use mathlib.Core.Path.{sym, ap, ◌∙◌}
 use Rattle.record.specs.declared.Event.{Event}
-use Rattle.orders.specs.Lost.{isOff}
+use Rattle.orders.specs.Lost.{is_off}
 use Rattle.orders.proofs.Lost.{keeps}
 use borrow.Author.Rules.{rules}
 use Rattle.stamps.proofs.lost_by.Statement.{statement}
@@ -25,10 +25,10 @@ lost-played-requires : tie.Need-lost-played-requires
 lost-played-requires c κs = search rules
 
 returns : tie.Need-returns
-returns c = c.lost.ensures ∙ sym (keeps _ _ _ (ap (λ (e : Event). isOff e) c.before.enum_told.given.1))
+returns c = c.lost.ensures ∙ sym (keeps _ _ _ (ap (λ (e : Event). is_off e) c.before.enum_told.given.1))
 
 returns-2 : tie.Need-returns-2
-returns-2 c = c.lost2.ensures ∙ sym (keeps _ _ _ (ap (λ (e : Event). isOff e) c.before.enum-told2.given.1))
+returns-2 c = c.lost2.ensures ∙ sym (keeps _ _ _ (ap (λ (e : Event). is_off e) c.before.enum-told2.given.1))
 
 returns-3 : tie.Need-returns-3
 returns-3 c = search rules

@@ -1,6 +1,6 @@
 use mathlib.Core.Path.{sym}
-use Rattle.law.specs.Choice.{true-not-false}
-use Rattle.stamps.proofs.Lone.{over_none, over-other}
+use Rattle.law.specs.Choice.{true_not_false}
+use Rattle.stamps.proofs.Lone.{over_none, over_other}
 use borrow.Author.Rules.{rules}
 use Rattle.stamps.proofs.over_at.Statement.{statement}
 use Rattle.stamps.proofs.over_at.Tie as tie
@@ -18,10 +18,10 @@ returns : tie.Need-returns
 returns c = λ e. over_none _ _ _ _ c.before.before.read-decimal.ensures c.enum_told.given.1
 
 returns-2 : tie.Need-returns-2
-returns-2 c = λ e. over-other _ _ _ _ c.before.before.before.before.read-decimal.ensures _ _ c.before.before.other.given.1 c.if1.true
+returns-2 c = λ e. over_other _ _ _ _ c.before.before.before.before.read-decimal.ensures _ _ c.before.before.other.given.1 c.if1.true
 
 returns-3 : tie.Need-returns-3
-returns-3 c = λ e. absurd (true-not-false (sym e))
+returns-3 c = λ e. absurd (true_not_false (sym e))
 
 pub over-at-spec : {M : Type 1} → statement M
 over-at-spec =

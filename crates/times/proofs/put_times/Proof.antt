@@ -1,4 +1,4 @@
-use Rattle.times.proofs.Both.{both-put}
+use Rattle.times.proofs.Both.{both_put}
 use borrow.Author.Rules.{rules}
 use Rattle.times.proofs.put_times.Statement.{statement}
 use Rattle.times.proofs.put_times.Tie as tie
@@ -13,7 +13,7 @@ same_length : tie.Need-same-length
 same_length c = search rules
 
 returns : tie.Need-returns
-returns c = let a = c.before.before.before.before.before.before.before.before.before.args in both-put a.stamp a.touched a.table.now _ _ c.before.before.before.before.before.before.put-pages.ensures c.before.before.put-pages2.ensures
+returns c = let a = c.before.before.before.before.before.before.before.before.before.args in both_put a.stamp a.touched a.table.now _ _ c.before.before.before.before.before.before.put-pages.ensures c.before.before.put-pages2.ensures
 
 pub put-times-spec : {M : Type 1} → statement M
 put-times-spec = tie.close (tie.spec put-pages-requires put-pages-requires-2 same_length returns)

@@ -5,14 +5,14 @@ use native.Mathlib.Omega.{arith}
 use borrow.Author.Rules.{rules}
 use lib.ListN.{length, length-set}
 use Rattle.law.specs.Places.{done}
-use Rattle.times.specs.Put.{entryFrom}
+use Rattle.times.specs.Put.{entry_from}
 use Rattle.times.proofs.Writing.{begun, turned, ended, short}
 use Rattle.times.proofs.write_entries.Statement.{statement}
 use Rattle.times.proofs.write_entries.Tie as tie
 
 abbrev invariant-loop : tie.invariant-loop
 invariant-loop table₀ first many stamp end k₀ table k =
-    (5 * first ≤ k) × (length table ≡ length table₀) × (table ≡ done (entryFrom first many stamp) k table₀)
+    (5 * first ≤ k) × (length table ≡ length table₀) × (table ≡ done (entry_from first many stamp) k table₀)
 
 abbrev decreases-loop : tie.decreases-loop
 decreases-loop table₀ first many stamp end k₀ table k = end - k

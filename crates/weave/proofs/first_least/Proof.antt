@@ -4,7 +4,7 @@ use native.Mathlib.Omega.{arith}
 use Prim.Native.Nat.{◌-◌}
 use mathlib.Core.Path.{◌≡◌, refl}
 use lib.ListN.{length}
-use Rattle.weave.proofs.LeastLaws.{Sofar, sofar-start, sofar-better, sofar-keep, sofar-end}
+use Rattle.weave.proofs.LeastLaws.{Sofar, sofar_start, sofar_better, sofar_keep, sofar_end}
 use Rattle.weave.proofs.first_least.Statement.{statement}
 use Rattle.weave.proofs.first_least.Tie as tie
 
@@ -18,7 +18,7 @@ array-read-least : tie.Need-array-read-least invariant-loop decreases-loop
 array-read-least c = search rules
 
 loop-holds : tie.Need-loop-init invariant-loop decreases-loop
-loop-holds c = let l : length c.args.t1 ≡ 5 = search rules in (sofar-start (omega (arith, l)) refl, l)
+loop-holds c = let l : length c.args.t1 ≡ 5 = search rules in (sofar_start (omega (arith, l)) refl, l)
 
 mul-n : tie.Need-overflow-mul-n invariant-loop decreases-loop
 mul-n c = search rules
@@ -33,7 +33,7 @@ loop-less : tie.Need-loop-smaller invariant-loop decreases-loop
 loop-less c = search rules
 
 loop-again : tie.Need-loop-preserved invariant-loop decreases-loop
-loop-again c = let i = c.before.before.loop.invariant in (sofar-better i.0 (omega (arith, i.1, c.before.loop-test.true)) refl c.if1.true, i.1)
+loop-again c = let i = c.before.before.loop.invariant in (sofar_better i.0 (omega (arith, i.1, c.before.loop-test.true)) refl c.if1.true, i.1)
 
 add-k-2 : tie.Need-overflow-add-k-2 invariant-loop decreases-loop
 add-k-2 c = search rules
@@ -42,10 +42,10 @@ loop-less-2 : tie.Need-loop-smaller-2 invariant-loop decreases-loop
 loop-less-2 c = search rules
 
 loop-again-2 : tie.Need-loop-preserved-2 invariant-loop decreases-loop
-loop-again-2 c = let i = c.before.before.loop.invariant in (sofar-keep i.0 (omega (arith, i.1, c.before.loop-test.true)) refl c.if1.false, i.1)
+loop-again-2 c = let i = c.before.before.loop.invariant in (sofar_keep i.0 (omega (arith, i.1, c.before.loop-test.true)) refl c.if1.false, i.1)
 
 returns : tie.Need-returns invariant-loop decreases-loop
-returns c = let i = c.before.loop.invariant in (sofar-end i.0 (omega (arith, i.1, c.loop-test.false)), omega (arith, i.0.small, i.0.within, i.1))
+returns c = let i = c.before.loop.invariant in (sofar_end i.0 (omega (arith, i.1, c.loop-test.false)), omega (arith, i.0.small, i.0.within, i.1))
 
 pub first-least-spec : {M : Type 1} → statement M
 first-least-spec =

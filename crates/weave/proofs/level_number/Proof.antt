@@ -15,7 +15,7 @@ returns : tie.Need-returns
 returns c = search rules
 
 returns-2 : tie.Need-returns-2
-returns-2 c = simp (c.before.before.f.given.1, c.number-of.ensures)
+returns-2 c = simp (c.before.before.f.given.1, c.number_of_lem.ensures)
 
 pub level-number-spec : {M : Type 1} → statement M
 level-number-spec =

@@ -3,8 +3,8 @@ use mathlib.Core.Path.{subst}
 use Rattle.decode.specs.declared.Out.TheVariants.{Nothing}
 use Rattle.decode.specs.declared.bits.Bits.{Bits}
 use Rattle.capture.specs.declared.Part.TheVariants.{FlashEnds, EepromEnds, Lines}
-use Rattle.weave.specs.Feeding.{behindOf, FeedsLevels}
-use Rattle.weave.proofs.StartLaws.{start-law}
+use Rattle.weave.specs.Feeding.{behind_of, FeedsLevels}
+use Rattle.weave.proofs.StartLaws.{start_law}
 use borrow.Author.Rules.{rules}
 use Rattle.weave.proofs.start_weave.Statement.{statement}
 use Rattle.weave.proofs.start_weave.Tie as tie
@@ -48,10 +48,10 @@ trace-number-requires-3 c κs = search rules
 returns : tie.Need-returns
 returns c =
     let a = c.before.before.before.before.before.before.before.before.before.before.before.before.before.before.args in
-    start-law
-    (subst (λ (s : Bits). FeedsLevels a.levels.now (behindOf a.at a.a s Nothing) c.before.before.before.before.before.before.before.before.before.before.of-levels.result) c.before.before.before.before.before.before.before.before.before.before.before.of-flash.ensures c.before.before.before.before.before.before.before.before.before.before.of-levels.ensures)
-    (subst (λ (s : Bits). FeedsLevels a.levels.now (behindOf a.at a.a s Nothing) c.before.before.before.before.before.before.before.before.of-levels2.result) c.before.before.before.before.before.before.before.before.before.of-wires.ensures c.before.before.before.before.before.before.before.before.of-levels2.ensures)
-    c.before.before.before.before.before.before.before.feed-trace.ensures c.before.before.before.before.before.before.feed-trace2.ensures c.before.before.before.before.before.feed-trace3.ensures
+    start_law
+    (subst (λ (s : Bits). FeedsLevels a.levels.now (behind_of a.at a.a s Nothing) c.before.before.before.before.before.before.before.before.before.before.of-levels.result) c.before.before.before.before.before.before.before.before.before.before.before.of_flash_lem.ensures c.before.before.before.before.before.before.before.before.before.before.of-levels.ensures)
+    (subst (λ (s : Bits). FeedsLevels a.levels.now (behind_of a.at a.a s Nothing) c.before.before.before.before.before.before.before.before.of-levels2.result) c.before.before.before.before.before.before.before.before.before.of-wires.ensures c.before.before.before.before.before.before.before.before.of-levels2.ensures)
+    c.before.before.before.before.before.before.before.feed_trace.ensures c.before.before.before.before.before.before.feed-trace2.ensures c.before.before.before.before.before.feed-trace3.ensures
     c.before.before.before.before.level-number.ensures c.before.before.before.level-number2.ensures (c.before.before.trace-number.ensures FlashEnds) (c.before.trace-number2.ensures EepromEnds) (c.trace-number3.ensures Lines)
 
 pub start-weave-spec : {M : Type 1} → statement M

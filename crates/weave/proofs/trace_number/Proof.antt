@@ -15,7 +15,7 @@ returns : tie.Need-returns
 returns c = λ part. simp c.enum_told.given.1
 
 returns-2 : tie.Need-returns-2
-returns-2 c = λ part. simp (c.before.before.f.given.1, c.number-of.ensures)
+returns-2 c = λ part. simp (c.before.before.f.given.1, c.number_of_lem.ensures)
 
 pub trace-number-spec : {M : Type 1} → statement M
 trace-number-spec =

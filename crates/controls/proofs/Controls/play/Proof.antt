@@ -1,4 +1,4 @@
-use Rattle.controls.specs.Play.{movedOf}
+use Rattle.controls.specs.Play.{moved_of}
 use borrow.Author.Rules.{rules}
 use Rattle.controls.proofs.Controls.play.Statement.{statement}
 use Rattle.controls.proofs.Controls.play.Tie as tie
@@ -22,15 +22,15 @@ line-moved-requires : tie.Need-line-moved-requires
 line-moved-requires c κs = search rules
 
 returns : tie.Need-returns
-unfolding movedOf
+unfolding moved_of
 returns c = simp (c.before.before.event.given.1, c.flash-moved.ensures)
 
 returns-2 : tie.Need-returns-2
-unfolding movedOf
+unfolding moved_of
 returns-2 c = simp (c.before.before.event2.given.1, c.eeprom-moved.ensures)
 
 returns-3 : tie.Need-returns-3
-unfolding movedOf
+unfolding moved_of
 returns-3 c = simp (c.before.before.event3.given.1, c.line-moved.ensures)
 
 pub play-spec : {M : Type 1} → statement M

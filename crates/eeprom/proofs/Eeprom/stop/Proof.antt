@@ -60,7 +60,7 @@ returns-5 : tie.Need-returns-5
 returns-5 c = simp (c.before.enum-told5.given.1, c.silent-in5.ensures)
 
 returns-6 : tie.Need-returns-6
-returns-6 c = simp (c.before.before.frame.given.1, c.write-ends.ensures)
+returns-6 c = simp (c.before.before.frame.given.1, c.write_ends_lem.ensures)
 
 returns-7 : tie.Need-returns-7
 returns-7 c = simp (c.before.enum-told6.given.1, c.silent-in6.ensures)

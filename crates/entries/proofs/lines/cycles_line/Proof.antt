@@ -1,5 +1,5 @@
 -- `entries::lines::cycles_line`: word, number, LF. Assumes nothing.
-use Rattle.entries.proofs.Putting.{put-cycles}
+use Rattle.entries.proofs.Putting.{put_cycles}
 use borrow.Author.Rules.{rules}
 use Rattle.entries.proofs.lines.cycles_line.Statement.{statement}
 use Rattle.entries.proofs.lines.cycles_line.Tie as tie
@@ -24,7 +24,7 @@ put-word-requires-2 c κs = search rules
 
 returns : tie.Need-returns
 returns c =
-    put-cycles _ c.before.before.before.before.before.no_bytes.ensures c.before.before.before.put_word.ensures c.before.before.put-decimal.ensures c.put-word2.ensures
+    put_cycles _ c.before.before.before.before.before.no_bytes.ensures c.before.before.before.put_word.ensures c.before.before.put-decimal.ensures c.put-word2.ensures
 
 pub cycles-line-spec : {M : Type 1} → statement M
 cycles-line-spec =

@@ -1,5 +1,5 @@
 -- `entries::lines::head_line`: kind, tab, address and its end. Assumes nothing.
-use Rattle.entries.proofs.Putting.{put-head}
+use Rattle.entries.proofs.Putting.{put_head}
 use borrow.Author.Rules.{rules}
 use Rattle.entries.proofs.lines.head_line.Statement.{statement}
 use Rattle.entries.proofs.lines.head_line.Tie as tie
@@ -24,7 +24,7 @@ put-end-requires c κs = search rules
 
 returns : tie.Need-returns
 returns c =
-    put-head _ _ _ _ c.before.before.before.before.before.no_bytes.ensures c.before.before.before.before.put-kind.ensures c.before.before.put_word.ensures c.before.put-address.ensures c.put-end.ensures
+    put_head _ _ _ _ c.before.before.before.before.before.no_bytes.ensures c.before.before.before.before.put-kind.ensures c.before.before.put_word.ensures c.before.put_address.ensures c.put-end.ensures
 
 pub head-line-spec : {M : Type 1} → statement M
 head-line-spec =

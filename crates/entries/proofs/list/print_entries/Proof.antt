@@ -3,7 +3,7 @@ use lib.ListN.{length, get_or}
 use borrow.Author.Rules.{rules}
 use mathlib.Core.Path.{◌≡◌}
 use native.Mathlib.Omega.{arith}
-use Rattle.entries.proofs.Walk.{Still, still-start, still-inside, still-room, still-more, still-ended, inside-head}
+use Rattle.entries.proofs.Walk.{Still, still_start, still_inside, still_room, still_more, still_ended, inside_head}
 use Rattle.entries.proofs.list.print_entries.Statement.{statement}
 use Rattle.entries.proofs.list.print_entries.Tie as tie
 
@@ -14,13 +14,13 @@ abbrev decreases-loop : tie.decreases-loop
 decreases-loop list number out₀ left₀ from₀ at₀ out left from at = left
 
 loop-holds : tie.Need-loop-init invariant-loop decreases-loop
-loop-holds c = still-start _ _ _ c.before.before.requires.0
+loop-holds c = still_start _ _ _ c.before.before.requires.0
 
 shared-slice-read-entry-size : tie.Need-shared-slice-read-entry-size invariant-loop decreases-loop
 shared-slice-read-entry-size c =
     let l = c.before.before.loop in
     let a = c.before.before.before.before.before.args in
-    let h = inside-head (get_or a.list.now l.from 0) l.from (length a.list.now) (still-inside a.list.now a.out.now a.number l.left l.from l.at l.out l.invariant c.before.loop-test.true) in omega arith
+    let h = inside_head (get_or a.list.now l.from 0) l.from (length a.list.now) (still_inside a.list.now a.out.now a.number l.left l.from l.at l.out l.invariant c.before.loop-test.true) in omega arith
 
 entry-size-requires : tie.Need-entry-size-requires invariant-loop decreases-loop
 entry-size-requires c κs = search rules
@@ -29,13 +29,13 @@ print-entry-requires : tie.Need-print-entry-requires invariant-loop decreases-lo
 print-entry-requires c κs =
     let l = c.before.before.before.before.loop in
     let a = c.before.before.before.before.before.before.before.args in
-    (still-inside a.list.now a.out.now a.number l.left l.from l.at l.out l.invariant c.before.before.before.loop-test.true, still-room a.list.now a.out.now a.number l.left l.from l.at l.out l.invariant c.before.before.before.loop-test.true c.before.before.before.before.before.before.before.requires.1)
+    (still_inside a.list.now a.out.now a.number l.left l.from l.at l.out l.invariant c.before.before.before.loop-test.true, still_room a.list.now a.out.now a.number l.left l.from l.at l.out l.invariant c.before.before.before.loop-test.true c.before.before.before.before.before.before.before.requires.1)
 
 add-from : tie.Need-overflow-add-from invariant-loop decreases-loop
 add-from c =
     let l = c.before.before.before.before.before.before.before.loop in
     let a = c.before.before.before.before.before.before.before.before.before.before.args in
-    let h = still-inside a.list.now a.out.now a.number l.left l.from l.at l.out l.invariant c.before.before.before.before.before.before.loop-test.true in
+    let h = still_inside a.list.now a.out.now a.number l.left l.from l.at l.out l.invariant c.before.before.before.before.before.before.loop-test.true in
     omega (arith, c.before.before.before.before.entry-size.ensures)
 
 sub-left : tie.Need-overflow-sub-left invariant-loop decreases-loop
@@ -48,7 +48,7 @@ loop-again : tie.Need-loop-preserved invariant-loop decreases-loop
 loop-again c =
     let l = c.before.before.before.before.before.before.before.loop in
     let a = c.before.before.before.before.before.before.before.before.before.before.args in
-    still-more a.list.now a.out.now a.number l.left l.from l.at l.out l.invariant c.before.before.before.before.before.before.loop-test.true c.before.before.before.before.entry-size.result c.before.before.print-entry.result _ c.before.before.before.before.entry-size.ensures c.before.before.print-entry.ensures.0 c.before.before.print-entry.ensures.1
+    still_more a.list.now a.out.now a.number l.left l.from l.at l.out l.invariant c.before.before.before.before.before.before.loop-test.true c.before.before.before.before.entry-size.result c.before.before.print-entry.result _ c.before.before.before.before.entry-size.ensures c.before.before.print-entry.ensures.0 c.before.before.print-entry.ensures.1
 
 same_length : tie.Need-same-length invariant-loop decreases-loop
 same_length c = c.before.loop.invariant.same
@@ -56,7 +56,7 @@ same_length c = c.before.loop.invariant.same
 returns : tie.Need-returns invariant-loop decreases-loop
 returns c =
     let z : c.before.loop.left ≡ 0 = omega arith in
-    still-ended _ _ _ _ _ _ _ z c.before.loop.invariant
+    still_ended _ _ _ _ _ _ _ z c.before.loop.invariant
 
 pub print-entries-spec : {M : Type 1} → statement M
 print-entries-spec =

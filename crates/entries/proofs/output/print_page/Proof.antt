@@ -4,20 +4,20 @@ use lib.ListN.{length, take, drop, length-set}
 use Prim.Native.Nat.{◌+◌, ◌*◌, ◌-◌, ◌≤◌}
 use mathlib.Core.Path.{◌≡◌, refl, sym, ap}
 use native.Mathlib.Omega.{arith}
-use Rattle.page.specs.Geometry.{flashPage}
-use Rattle.entries.specs.Printed.{hexBytes}
-use Rattle.entries.proofs.Digits.{hex-none, page-more, page-ended}
+use Rattle.page.specs.Geometry.{flash_page}
+use Rattle.entries.specs.Printed.{hex_bytes}
+use Rattle.entries.proofs.Digits.{hex_none, page_more, page_ended}
 use Rattle.entries.proofs.output.print_page.Statement.{statement}
 use Rattle.entries.proofs.output.print_page.Tie as tie
 
 abbrev invariant-loop : tie.invariant-loop
-invariant-loop list from out₀ first at₀ k₀ out at k = (k ≤ flashPage) × (at ≡ first + 2 * k) × (length out ≡ length out₀) × (out ≡ sets out₀ first (hexBytes (take k (drop from list))))
+invariant-loop list from out₀ first at₀ k₀ out at k = (k ≤ flash_page) × (at ≡ first + 2 * k) × (length out ≡ length out₀) × (out ≡ sets out₀ first (hex_bytes (take k (drop from list))))
 
 abbrev decreases-loop : tie.decreases-loop
-decreases-loop list from out₀ first at₀ k₀ out at k = flashPage - k
+decreases-loop list from out₀ first at₀ k₀ out at k = flash_page - k
 
 loop-holds : tie.Need-loop-init invariant-loop decreases-loop
-loop-holds c = (omega arith, omega arith, refl, ap (sets c.before.before.args.out.now c.before.before.args.first) (sym hex-none))
+loop-holds c = (omega arith, omega arith, refl, ap (sets c.before.before.args.out.now c.before.before.args.first) (sym hex_none))
 
 add-print-byte : tie.Need-overflow-add-print-byte invariant-loop decreases-loop
 add-print-byte c = omega arith
@@ -41,7 +41,7 @@ loop-again c =
       omega arith,
       omega (arith, c.before.before.print-byte.ensures.0),
       omega arith,
-      page-more a.list.now a.out.now a.from a.first c.before.before.before.before.before.before.before.before.before.requires.0 l.out _ l.at l.k (omega arith) l.invariant.1 l.invariant.3 c.before.before.print-byte.ensures.1,
+      page_more a.list.now a.out.now a.from a.first c.before.before.before.before.before.before.before.before.before.requires.0 l.out _ l.at l.k (omega arith) l.invariant.1 l.invariant.3 c.before.before.print-byte.ensures.1,
     )
 
 slice-write-out : tie.Need-slice-write-out invariant-loop decreases-loop
@@ -58,7 +58,7 @@ returns c =
     let a = c.before.before.before.before.args in
     let l = c.before.loop in
     let k : l.k ≡ 256 = omega arith in
-    (omega arith, page-ended a.list.now a.out.now a.from a.first c.before.before.before.before.requires.0 l.out l.at l.k k l.invariant.1 l.invariant.3)
+    (omega arith, page_ended a.list.now a.out.now a.from a.first c.before.before.before.before.requires.0 l.out l.at l.k k l.invariant.1 l.invariant.3)
 
 pub print-page-spec : {M : Type 1} → statement M
 print-page-spec =

@@ -1,4 +1,4 @@
-use Rattle.field.proofs.DecimalLaws.{decimalFrom, push-small, answers, at_push, at-bad, at-end}
+use Rattle.field.proofs.DecimalLaws.{decimal_from, push_small, answers, at_push, at_bad, at_end}
 use Rattle.field.specs.Decimal.{largest}
 use Prim.Native.Nat.{◌≤◌, ◌-◌}
 use native.Mathlib.Omega.{arith}
@@ -10,7 +10,7 @@ use Rattle.field.proofs.decimal.read_decimal.Statement.{statement}
 use Rattle.field.proofs.decimal.read_decimal.Tie as tie
 
 abbrev invariant-loop : tie.invariant-loop
-invariant-loop text number at₀ value₀ first₀ at value first = (value ≤ largest) × (decimalFrom number true 0 at₀ (drop at₀ text) ≡ decimalFrom number first value at (drop at text))
+invariant-loop text number at₀ value₀ first₀ at value first = (value ≤ largest) × (decimal_from number true 0 at₀ (drop at₀ text) ≡ decimal_from number first value at (drop at text))
 
 abbrev decreases-loop : tie.decreases-loop
 decreases-loop text number at₀ value₀ first₀ at value first = length text - at
@@ -34,7 +34,7 @@ stopped-requires : tie.Need-stopped-requires invariant-loop decreases-loop
 stopped-requires c κs = omega arith
 
 returns : tie.Need-returns invariant-loop decreases-loop
-returns c = answers _ _ _ _ (c.before.before.before.before.before.before.loop.invariant.1 ∙ at-bad _ _ _ _ _ c.before.before.before.before.before.loop-test.true (sym c.before.before.before.push.ensures ∙ c.before.enum_told.given.1) ∙ sym c.stopped.ensures)
+returns c = answers _ _ _ _ (c.before.before.before.before.before.before.loop.invariant.1 ∙ at_bad _ _ _ _ _ c.before.before.before.before.before.loop-test.true (sym c.before.before.before.push.ensures ∙ c.before.enum_told.given.1) ∙ sym c.stopped.ensures)
 
 add_at : tie.Need-overflow-add-at invariant-loop decreases-loop
 add_at c = omega arith
@@ -45,13 +45,13 @@ loop-less c = omega arith
 loop-again : tie.Need-loop-preserved invariant-loop decreases-loop
 loop-again c = let i = c.before.before.before.before.before.before.loop in
     let e = sym c.before.before.before.push.ensures ∙ c.before.next.given.1 in
-    (push-small i.value (get_or c.before.before.before.before.before.before.before.before.args.text.now i.at 0) _ i.first e, i.invariant.1 ∙ at_push _ _ _ _ _ c.before.before.before.before.before.loop-test.true _ e)
+    (push_small i.value (get_or c.before.before.before.before.before.before.before.before.args.text.now i.at 0) _ i.first e, i.invariant.1 ∙ at_push _ _ _ _ _ c.before.before.before.before.before.loop-test.true _ e)
 
 stopped-requires-2 : tie.Need-stopped-requires-2 invariant-loop decreases-loop
 stopped-requires-2 c κs = omega arith
 
 returns-2 : tie.Need-returns-2 invariant-loop decreases-loop
-returns-2 c = answers _ _ _ _ (c.before.before.loop.invariant.1 ∙ at-end _ _ _ _ _ c.before.loop-test.false ∙ sym c.stopped2.ensures)
+returns-2 c = answers _ _ _ _ (c.before.before.loop.invariant.1 ∙ at_end _ _ _ _ _ c.before.loop-test.false ∙ sym c.stopped2.ensures)
 
 pub read-decimal-spec : {M : Type 1} → statement M
 read-decimal-spec =

@@ -1,7 +1,7 @@
 use Rattle.law.specs.Choice.{via}
 use mathlib.Core.Path.{sym, ◌∙◌}
-use Rattle.field.proofs.FieldLaws.{ends-out}
-use Rattle.field.proofs.WordLaws.{end-out, end-other, end_is}
+use Rattle.field.proofs.FieldLaws.{ends_out}
+use Rattle.field.proofs.WordLaws.{end_out, end_other, end_is}
 use borrow.Author.Rules.{rules}
 use Rattle.field.proofs.ending.read_end.Statement.{statement}
 use Rattle.field.proofs.ending.read_end.Tie as tie
@@ -10,7 +10,7 @@ add-next : tie.Need-overflow-add-next
 add-next c = search rules
 
 returns : tie.Need-returns
-returns c = end-out _ _ c.before.before.args.end _ c.if1.true (let a = c.before.before.args in simp (sym (ends-out a.text.now a.c.at c.if1.true)))
+returns c = end_out _ _ c.before.before.args.end _ c.if1.true (let a = c.before.before.args in simp (sym (ends_out a.text.now a.c.at c.if1.true)))
 
 shared-slice-read-if2 : tie.Need-shared-slice-read-if2
 shared-slice-read-if2 c = search rules
@@ -28,10 +28,10 @@ ends-at-requires : tie.Need-ends-at-requires
 ends-at-requires c κs = search rules
 
 returns-3 : tie.Need-returns-3
-returns-3 c = end-other _ _ c.before.before.before.before.before.before.before.args.end _ (λ e. c.before.before.if2.false (e ∙ sym c.before.before.before.end-byte.ensures)) (simp (via c.before.ends_at.ensures c.if3.true))
+returns-3 c = end_other _ _ c.before.before.before.before.before.before.before.args.end _ (λ e. c.before.before.if2.false (e ∙ sym c.before.before.before.end-byte.ensures)) (simp (via c.before.ends_at.ensures c.if3.true))
 
 returns-4 : tie.Need-returns-4
-returns-4 c = end-other _ _ c.before.before.before.before.before.before.before.args.end _ (λ e. c.before.before.if2.false (e ∙ sym c.before.before.before.end-byte.ensures)) (simp (via c.before.ends_at.ensures c.if3.false))
+returns-4 c = end_other _ _ c.before.before.before.before.before.before.before.args.end _ (λ e. c.before.before.if2.false (e ∙ sym c.before.before.before.end-byte.ensures)) (simp (via c.before.ends_at.ensures c.if3.false))
 
 pub read-end-spec : {M : Type 1} → statement M
 read-end-spec =

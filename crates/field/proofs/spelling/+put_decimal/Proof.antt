@@ -1,6 +1,6 @@
 use borrow.Author.Rules.{rules}
 use native.Mathlib.Omega.{arith}
-use Rattle.field.proofs.SpellingLaws.{put_last, put-digits}
+use Rattle.field.proofs.SpellingLaws.{put_last, put_digits}
 use Prim.Native.Nat.{ℕ, ◌<◌}
 use borrow.Fn.Kinds.{In}
 use borrow.Fn.PlainCycle.{Measures, is, falls, and}
@@ -92,7 +92,7 @@ put-decimal-returns-2 : (t : ℕ) → put-decimal-lts.Need-returns-2 (
   put-decimal-below t,
   put-decimal.Post,
 ) (put-decimal-at t) put-decimal.Post
-put-decimal-returns-2 t c = put-digits _ _ c.before.before.if1.false c.before.put-decimal.ensures c.put2.ensures
+put-decimal-returns-2 t c = put_digits _ _ c.before.before.if1.false c.before.put-decimal.ensures c.put2.ensures
 
 pub +put-decimal-spec : {M : Type 1} → statement M
 +put-decimal-spec = close μ-put-decimal λ t. put-decimal-lts.spec (

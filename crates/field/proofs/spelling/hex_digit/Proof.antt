@@ -1,4 +1,4 @@
-use Rattle.field.specs.Hex.{hexDigit}
+use Rattle.field.specs.Hex.{hex_digit}
 use borrow.Author.Tests.{le-ltb, lt-ltb}
 use borrow.Author.Rules.{rules}
 use Rattle.field.proofs.spelling.hex_digit.Statement.{statement}
@@ -8,14 +8,14 @@ add-result : tie.Need-overflow-add-result
 add-result c = search rules
 
 returns : tie.Need-returns
-unfolding hexDigit
+unfolding hex_digit
 returns c = simp (lt-ltb _ _ c.if1.true)
 
 add-result-2 : tie.Need-overflow-add-result-2
 add-result-2 c = search rules
 
 returns-2 : tie.Need-returns-2
-unfolding hexDigit
+unfolding hex_digit
 returns-2 c = simp (le-ltb _ _ c.if1.false)
 
 pub hex-digit-spec : {M : Type 1} → statement M

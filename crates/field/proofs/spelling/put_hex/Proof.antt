@@ -1,4 +1,4 @@
-use Rattle.field.proofs.SpellingLaws.{put-hex}
+use Rattle.field.proofs.SpellingLaws.{put_hex}
 use borrow.Author.Rules.{rules}
 use Rattle.field.proofs.spelling.put_hex.Statement.{statement}
 use Rattle.field.proofs.spelling.put_hex.Tie as tie
@@ -16,7 +16,7 @@ put-requires-2 : tie.Need-put-requires-2
 put-requires-2 c κs = search rules
 
 returns : tie.Need-returns
-returns c = put-hex _ _ c.before.before.before.hex-digit.ensures c.before.before.put.ensures c.before.hex-digit2.ensures c.put2.ensures (search rules)
+returns c = put_hex _ _ c.before.before.before.hex-digit.ensures c.before.before.put.ensures c.before.hex-digit2.ensures c.put2.ensures (search rules)
 
 pub put-hex-spec : {M : Type 1} → statement M
 put-hex-spec =

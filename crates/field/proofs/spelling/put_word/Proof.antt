@@ -1,4 +1,4 @@
-use Rattle.field.proofs.SpellingLaws.{put_whole, put-none, put_in_place, put-over}
+use Rattle.field.proofs.SpellingLaws.{put_whole, put_none, put_in_place, put_over}
 use borrow.Author.Rules.{rules}
 use Prim.Native.Nat.{◌≤◌, ◌-◌}
 use native.Mathlib.Omega.{arith}
@@ -15,10 +15,10 @@ abbrev decreases-loop : tie.decreases-loop
 decreases-loop word next₀ k₀ next k = length word - k
 
 loop-holds : tie.Need-loop-init invariant-loop decreases-loop
-loop-holds c = (omega arith, sym (put-none _))
+loop-holds c = (omega arith, sym (put_none _))
 
 returns : tie.Need-returns invariant-loop decreases-loop
-returns c = put-over _ _ c.before.before.loop.k c.if1.true c.before.before.loop.invariant.1
+returns c = put_over _ _ c.before.before.loop.k c.if1.true c.before.before.loop.invariant.1
 
 shared-slice-read-next : tie.Need-shared-slice-read-next invariant-loop decreases-loop
 shared-slice-read-next c = omega arith

@@ -1,4 +1,4 @@
-use Rattle.field.proofs.WordLaws.{word-short, word-miss, word-here, word-empty}
+use Rattle.field.proofs.WordLaws.{word_short, word_miss, word_here, word_empty}
 use lib.ListN.{length, get_or}
 use borrow.Author.Count.{below_more}
 use mathlib.Core.Path.{◌≡◌}
@@ -14,16 +14,16 @@ abbrev decreases-loop : tie.decreases-loop
 decreases-loop text word number at bad k₀ k = length word - k
 
 returns : tie.Need-returns invariant-loop decreases-loop
-returns c = word-empty _ _ _ _ c.if1.true
+returns c = word_empty _ _ _ _ c.if1.true
 
 returns-2 : tie.Need-returns-2 invariant-loop decreases-loop
-returns-2 c = word-short _ _ _ _ (omega arith) (omega arith)
+returns-2 c = word_short _ _ _ _ (omega arith) (omega arith)
 
 sub-if3 : tie.Need-overflow-sub-if3 invariant-loop decreases-loop
 sub-if3 c = omega arith
 
 returns-3 : tie.Need-returns-3 invariant-loop decreases-loop
-returns-3 c = word-short _ _ _ _ (omega arith) (omega arith)
+returns-3 c = word_short _ _ _ _ (omega arith) (omega arith)
 
 loop-holds : tie.Need-loop-init invariant-loop decreases-loop
 loop-holds c = (omega arith, λ i h. absurd (omega arith))
@@ -38,7 +38,7 @@ shared-slice-read-if4-2 : tie.Need-shared-slice-read-if4-2 invariant-loop decrea
 shared-slice-read-if4-2 c = omega arith
 
 returns-4 : tie.Need-returns-4 invariant-loop decreases-loop
-returns-4 c = word-miss _ _ _ _ _ c.before.before.before.loop-test.true c.if4.true
+returns-4 c = word_miss _ _ _ _ _ c.before.before.before.loop-test.true c.if4.true
 
 add-k : tie.Need-overflow-add-k invariant-loop decreases-loop
 add-k c = omega arith
@@ -53,7 +53,7 @@ add-t12 : tie.Need-overflow-add-t12 invariant-loop decreases-loop
 add-t12 c = omega arith
 
 returns-5 : tie.Need-returns-5 invariant-loop decreases-loop
-returns-5 c = word-here _ _ _ _ (omega arith) (λ i h. c.before.loop.invariant.1 i (omega arith))
+returns-5 c = word_here _ _ _ _ (omega arith) (λ i h. c.before.loop.invariant.1 i (omega arith))
 
 pub read-word-spec : {M : Type 1} → statement M
 read-word-spec =

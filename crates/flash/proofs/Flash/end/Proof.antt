@@ -13,7 +13,7 @@ bare-chip-requires : tie.Need-bare-chip-requires
 bare-chip-requires c κs = search rules
 
 returns : tie.Need-returns
-returns c = simp (via c.before.before.before.running.ensures c.before.before.if1.true, c.before.end-status.ensures, c.bare-chip.ensures)
+returns c = simp (via c.before.before.before.running.ensures c.before.before.if1.true, c.before.end_status_lem.ensures, c.bare-chip.ensures)
 
 returns-2 : tie.Need-returns-2
 returns-2 c = simp (via c.before.running.ensures c.if1.false)

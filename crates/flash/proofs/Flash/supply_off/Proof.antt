@@ -12,7 +12,7 @@ bare-chip-requires : tie.Need-bare-chip-requires
 bare-chip-requires c κs = search rules
 
 returns : tie.Need-returns
-returns c = simp (c.before.before.off-status.ensures, c.before.voided.ensures, c.bare-chip.ensures)
+returns c = simp (c.before.before.off_status_lem.ensures, c.before.voided.ensures, c.bare-chip.ensures)
 
 pub supply-off-spec : {M : Type 1} → statement M
 supply-off-spec =

@@ -87,7 +87,7 @@ returns : tie.Need-returns
 returns c = simp (c.before.before.enum_told.given.1, c.before.with-enable.ensures, c.set_if.ensures)
 
 returns-2 : tie.Need-returns-2
-returns-2 c = simp (c.before.before.enum-told2.given.1, c.before.kept-bits.ensures, c.set-if2.ensures)
+returns-2 c = simp (c.before.before.enum-told2.given.1, c.before.kept_bits_lem.ensures, c.set-if2.ensures)
 
 returns-3 : tie.Need-returns-3
 returns-3 c = search rules
@@ -99,10 +99,10 @@ returns-5 : tie.Need-returns-5
 returns-5 c = search rules
 
 returns-6 : tie.Need-returns-6
-returns-6 c = simp (c.before.before.before.before.before.sector-of.ensures, c.before.before.before.before.sector-locked.ensures, c.before.before.enum-told6.given.1, c.before.may-start2.ensures, c.start-if2.ensures)
+returns-6 c = simp (c.before.before.before.before.before.sector_of_lem.ensures, c.before.before.before.before.sector-locked.ensures, c.before.before.enum-told6.given.1, c.before.may-start2.ensures, c.start-if2.ensures)
 
 returns-7 : tie.Need-returns-7
-returns-7 c = simp (c.before.before.before.before.before.sector-of.ensures, c.before.before.before.before.sector-locked.ensures, c.before.before.enum-told7.given.1, c.before.may-start3.ensures, c.start-if3.ensures)
+returns-7 c = simp (c.before.before.before.before.before.sector_of_lem.ensures, c.before.before.before.before.sector-locked.ensures, c.before.before.enum-told7.given.1, c.before.may-start3.ensures, c.start-if3.ensures)
 
 returns-8 : tie.Need-returns-8
 returns-8 c = simp (c.before.before.before.enum-told8.given.1, c.before.before.sector-locked2.ensures, c.before.may-start4.ensures, c.start-if4.ensures)

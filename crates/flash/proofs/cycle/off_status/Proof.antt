@@ -39,7 +39,7 @@ returns : tie.Need-returns
 returns c = search rules
 
 returns-2 : tie.Need-returns-2
-returns-2 c = simp (c.before.before.before.before.status.given.1, c.before.enum-told2.given.1, c.kept-bits.ensures)
+returns-2 c = simp (c.before.before.before.before.status.given.1, c.before.enum-told2.given.1, c.kept_bits_lem.ensures)
 
 returns-3 : tie.Need-returns-3
 returns-3 c = simp (c.before.before.before.before.status.given.1, c.before.enum-told3.given.1, c.kept-bits2.ensures)

@@ -1,4 +1,4 @@
-use Rattle.flash.specs.Equal.{cycle-right}
+use Rattle.flash.specs.Equal.{cycle_right}
 use borrow.Author.Rules.{rules}
 use Rattle.flash.proofs.equal.same_cycle.Statement.{statement}
 use Rattle.flash.proofs.equal.same_cycle.Tie as tie
@@ -13,7 +13,7 @@ same-numbers-requires : tie.Need-same-numbers-requires
 same-numbers-requires c κs = search rules
 
 returns : tie.Need-returns
-returns c = cycle-right _ _ (rw (c.before.before.cycle-numbers.ensures, c.before.cycle-numbers2.ensures) at c.same_numbers.ensures)
+returns c = cycle_right _ _ (rw (c.before.before.cycle-numbers.ensures, c.before.cycle-numbers2.ensures) at c.same_numbers.ensures)
 
 pub same-cycle-spec : {M : Type 1} → statement M
 same-cycle-spec =

@@ -1,4 +1,4 @@
-use Rattle.flash.specs.Equal.{status-right}
+use Rattle.flash.specs.Equal.{status_right}
 use borrow.Author.Rules.{rules}
 use Rattle.flash.proofs.equal.same_status.Statement.{statement}
 use Rattle.flash.proofs.equal.same_status.Tie as tie
@@ -13,7 +13,7 @@ same-numbers-requires : tie.Need-same-numbers-requires
 same-numbers-requires c κs = search rules
 
 returns : tie.Need-returns
-returns c = status-right _ _ (rw (c.before.before.status-numbers.ensures, c.before.status-numbers2.ensures) at c.same_numbers.ensures)
+returns c = status_right _ _ (rw (c.before.before.status-numbers.ensures, c.before.status-numbers2.ensures) at c.same_numbers.ensures)
 
 pub same-status-spec : {M : Type 1} → statement M
 same-status-spec =

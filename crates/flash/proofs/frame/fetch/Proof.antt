@@ -12,10 +12,10 @@ sector-of-requires : tie.Need-sector-of-requires
 sector-of-requires c κs = search rules
 
 returns-2 : tie.Need-returns-2
-returns-2 c = simp (le-ltb _ _ c.before.before.if1.false, eq-eqb _ _ (via c.before.sector-of.ensures c.if2.true))
+returns-2 c = simp (le-ltb _ _ c.before.before.if1.false, eq-eqb _ _ (via c.before.sector_of_lem.ensures c.if2.true))
 
 returns-3 : tie.Need-returns-3
-returns-3 c = simp (le-ltb _ _ c.before.before.if1.false, ne_eqb _ _ (λ e. c.if2.false (c.before.sector-of.ensures ∙ e)))
+returns-3 c = simp (le-ltb _ _ c.before.before.if1.false, ne_eqb _ _ (λ e. c.if2.false (c.before.sector_of_lem.ensures ∙ e)))
 
 pub fetch_spec : {M : Type 1} → statement M
 fetch_spec = tie.close (tie.spec returns sector-of-requires returns-2 returns-3)

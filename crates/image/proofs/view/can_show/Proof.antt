@@ -1,7 +1,7 @@
 use mathlib.Core.Path.{sym, ◌∙◌}
 use native.Mathlib.Omega.{arith}
 use borrow.Author.Tests.{eq-eqb, ne_eqb}
-use Rattle.image.proofs.Shown.{some-page}
+use Rattle.image.proofs.Shown.{some_page}
 use borrow.Author.Rules.{rules}
 use Rattle.image.proofs.view.can_show.Statement.{statement}
 use Rattle.image.proofs.view.can_show.Tie as tie
@@ -25,7 +25,7 @@ page-size-requires : tie.Need-page-size-requires
 page-size-requires c κs = search rules
 
 div-result : tie.Need-nonzero-div-result
-div-result c = omega (arith, some-page c.before.before.before.before.before.before.args.chip, c.page-size.ensures)
+div-result c = omega (arith, some_page c.before.before.before.before.before.before.args.chip, c.page-size.ensures)
 
 returns-3 : tie.Need-returns-3
 returns-3 c =

@@ -6,44 +6,44 @@ use lib.ListN.{length, take, drop}
 use denote.Ref.{Bor}
 use Rattle.record.specs.declared.Chip.{Chip}
 use Rattle.record.specs.declared.Chip.TheVariants.{Flash, Eeprom}
-use Rattle.image.specs.Images.{perChip, keptBytes}
-use Rattle.image.specs.View.{viewPlace, viewLength, Shows}
-use Rattle.image.proofs.Shown.{kept-most, view-within, asked-within, view-is}
+use Rattle.image.specs.Images.{per_chip, kept_bytes}
+use Rattle.image.specs.View.{view_place, view_length, Shows}
+use Rattle.image.proofs.Shown.{kept_most, view_within, asked_within, view_is}
 use borrow.Author.Rules.{rules}
 use Rattle.image.proofs.view.view.Statement.{statement}
 use Rattle.image.proofs.view.view.Tie as tie
 
 module _ (flash eeprom : Bor (List ℕ)) where
   -- the images' lengths, by image
-  long-is : perChip (length flash.now) (length eeprom.now) ≡ (λ c. length (perChip flash eeprom c).now)
+  long-is : per_chip (length flash.now) (length eeprom.now) ≡ (λ c. length (per_chip flash eeprom c).now)
   long-is = λ i c. each c i where
-    each : (c : Chip) → perChip (length flash.now) (length eeprom.now) c ≡ length (perChip flash eeprom c).now
+    each : (c : Chip) → per_chip (length flash.now) (length eeprom.now) c ≡ length (per_chip flash eeprom c).now
     each Flash = refl
     each Eeprom = refl
 
   module _ (chip : Chip) (number : ℕ) where
     abbrev place : ℕ
-    place = viewPlace (perChip (length flash.now) (length eeprom.now)) chip number
+    place = view_place (per_chip (length flash.now) (length eeprom.now)) chip number
 
     abbrev long : ℕ
-    long = viewLength (perChip (length flash.now) (length eeprom.now)) chip number
+    long = view_length (per_chip (length flash.now) (length eeprom.now)) chip number
 
-    within : place + long ≤ length (perChip flash eeprom chip).now
-    within = rw long-is (asked-within (λ c. (perChip flash eeprom c).now) chip number)
+    within : place + long ≤ length (per_chip flash eeprom chip).now
+    within = rw long-is (asked_within (λ c. (per_chip flash eeprom c).now) chip number)
 
     -- the part of the image w from p on, n long
-    shows : {w : Chip} → chip ≡ w → {p n : ℕ} → p ≡ place → n ≡ long → {r : Bor (List ℕ)} → r.ref_ptr ≡ ((perChip flash eeprom w).ptr.0, p + (perChip flash eeprom w).ptr.1)
-        → r.now ≡ take (p + n - p) (drop p (perChip flash eeprom w).now) → Shows (perChip flash eeprom) chip number r
+    shows : {w : Chip} → chip ≡ w → {p n : ℕ} → p ≡ place → n ≡ long → {r : Bor (List ℕ)} → r.ref_ptr ≡ ((per_chip flash eeprom w).ptr.0, p + (per_chip flash eeprom w).ptr.1)
+        → r.now ≡ take (p + n - p) (drop p (per_chip flash eeprom w).now) → Shows (per_chip flash eeprom) chip number r
     shows is {p} {n} at many lies bytes = record {
-      lies = lies ∙ (λ i. ((perChip flash eeprom (sym is i)).ptr.0, there i + (perChip flash eeprom (sym is i)).ptr.1));
-      bytes = bytes ∙ (λ i. take (much i) (drop (there i) (perChip flash eeprom (sym is i)).now)) ∙ sym (view-is (λ c. (perChip flash eeprom c).now) chip number);
+      lies = lies ∙ (λ i. ((per_chip flash eeprom (sym is i)).ptr.0, there i + (per_chip flash eeprom (sym is i)).ptr.1));
+      bytes = bytes ∙ (λ i. take (much i) (drop (there i) (per_chip flash eeprom (sym is i)).now)) ∙ sym (view_is (λ c. (per_chip flash eeprom c).now) chip number);
     }
       where
-        there : p ≡ viewPlace (λ c. length (perChip flash eeprom c).now) chip number
-        there = at ∙ ap (λ (l : Chip → ℕ). viewPlace l chip number) long-is
+        there : p ≡ view_place (λ c. length (per_chip flash eeprom c).now) chip number
+        there = at ∙ ap (λ (l : Chip → ℕ). view_place l chip number) long-is
 
-        much : p + n - p ≡ viewLength (λ c. length (perChip flash eeprom c).now) chip number
-        much = let m : p + n - p ≡ n = omega arith in m ∙ many ∙ ap (λ (l : Chip → ℕ). viewLength l chip number) long-is
+        much : p + n - p ≡ view_length (λ c. length (per_chip flash eeprom c).now) chip number
+        much = let m : p + n - p ≡ n = omega arith in m ∙ many ∙ ap (λ (l : Chip → ℕ). view_length l chip number) long-is
 
 view-place-requires : tie.Need-view-place-requires
 view-place-requires c κs = search rules
@@ -52,7 +52,7 @@ view-length-requires : tie.Need-view-length-requires
 view-length-requires c κs = search rules
 
 add-to : tie.Need-overflow-add-to
-add-to c = let s = c.before.before.before.before.args in omega (arith, view-within (perChip (length s.flash.now) (length s.eeprom.now)) s.chip s.number (keptBytes s.chip) (λ t. refl), kept-most s.chip, c.before.view-place.ensures, c.view-length.ensures)
+add-to c = let s = c.before.before.before.before.args in omega (arith, view_within (per_chip (length s.flash.now) (length s.eeprom.now)) s.chip s.number (kept_bytes s.chip) (λ t. refl), kept_most s.chip, c.before.view-place.ensures, c.view-length.ensures)
 
 enum_told : tie.Need-enum-told
 enum_told c = search rules
@@ -66,7 +66,7 @@ part-result-start c = search rules
 part-result-end : tie.Need-slice-bounds-result-end
 part-result-end c =
     let s = c.before.before.before.before.before.before.args in
-    let e : (perChip s.flash s.eeprom s.chip).now ≡ s.flash.now = ap (λ (w : Chip). (perChip s.flash s.eeprom w).now) c.enum_told.given.1 in
+    let e : (per_chip s.flash s.eeprom s.chip).now ≡ s.flash.now = ap (λ (w : Chip). (per_chip s.flash s.eeprom w).now) c.enum_told.given.1 in
     omega (arith, within s.flash s.eeprom s.chip s.number, ap length e, c.before.before.before.view-place.ensures, c.before.before.view-length.ensures)
 
 enum-told-2 : tie.Need-enum-told-2
@@ -81,7 +81,7 @@ part-result-start-2 c = search rules
 part-result-end-2 : tie.Need-slice-bounds-result-end-2
 part-result-end-2 c =
     let s = c.before.before.before.before.before.before.args in
-    let e : (perChip s.flash s.eeprom s.chip).now ≡ s.eeprom.now = ap (λ (w : Chip). (perChip s.flash s.eeprom w).now) c.enum-told2.given.1 in
+    let e : (per_chip s.flash s.eeprom s.chip).now ≡ s.eeprom.now = ap (λ (w : Chip). (per_chip s.flash s.eeprom w).now) c.enum-told2.given.1 in
     omega (arith, within s.flash s.eeprom s.chip s.number, ap length e, c.before.before.before.view-place.ensures, c.before.before.view-length.ensures)
 
 returns : tie.Need-returns

@@ -1,5 +1,5 @@
 use Rattle.law.specs.Choice.{via}
-use Rattle.image.specs.View.{viewLength}
+use Rattle.image.specs.View.{view_length}
 use borrow.Author.Rules.{rules}
 use Rattle.image.proofs.view.view_length.Statement.{statement}
 use Rattle.image.proofs.view.view_length.Tie as tie
@@ -11,12 +11,12 @@ page-size-requires : tie.Need-page-size-requires
 page-size-requires c κs = search rules
 
 returns : tie.Need-returns
-unfolding viewLength
-returns c = simp (via c.before.before.can-show.ensures c.before.if1.true, c.page-size.ensures)
+unfolding view_length
+returns c = simp (via c.before.before.can_show_lem.ensures c.before.if1.true, c.page-size.ensures)
 
 returns-2 : tie.Need-returns-2
-unfolding viewLength
-returns-2 c = simp (via c.before.can-show.ensures c.if1.false)
+unfolding view_length
+returns-2 c = simp (via c.before.can_show_lem.ensures c.if1.false)
 
 pub view-length-spec : {M : Type 1} → statement M
 view-length-spec = tie.close (tie.spec can-show-requires page-size-requires returns returns-2)

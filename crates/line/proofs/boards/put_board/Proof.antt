@@ -1,4 +1,4 @@
-use Rattle.line.proofs.BoardLaws.{put-from-nothing}
+use Rattle.line.proofs.BoardLaws.{put_from_nothing}
 use borrow.Author.Rules.{rules}
 use Rattle.line.proofs.boards.put_board.Statement.{statement}
 use Rattle.line.proofs.boards.put_board.Tie as tie
@@ -46,7 +46,7 @@ put-word-requires-4 : tie.Need-put-word-requires-4
 put-word-requires-4 c κs = search rules
 
 returns : tie.Need-returns
-returns c = put-from-nothing c.before.before.before.before.before.before.before.before.before.before.before.before.before.before.args.b c.before.before.before.before.before.before.before.before.before.before.before.before.before.before.requires c.before.before.before.before.before.before.before.before.before.before.before.before.before.no_bytes.ensures c.before.before.before.before.before.before.before.before.before.before.before.put_word.ensures c.before.before.before.before.before.before.before.before.before.before.put-hex.ensures c.before.before.before.before.before.before.before.before.put-word2.ensures c.before.before.before.before.before.before.put-decimal.ensures c.before.before.before.before.put-word3.ensures c.before.before.put-decimal2.ensures c.put-word4.ensures
+returns c = put_from_nothing c.before.before.before.before.before.before.before.before.before.before.before.before.before.before.args.b c.before.before.before.before.before.before.before.before.before.before.before.before.before.before.requires c.before.before.before.before.before.before.before.before.before.before.before.before.before.no_bytes.ensures c.before.before.before.before.before.before.before.before.before.before.before.put_word.ensures c.before.before.before.before.before.before.before.before.before.before.put_hex.ensures c.before.before.before.before.before.before.before.before.put-word2.ensures c.before.before.before.before.before.before.put-decimal.ensures c.before.before.before.before.put-word3.ensures c.before.before.put-decimal2.ensures c.put-word4.ensures
 
 pub put-board-spec : {M : Type 1} → statement M
 put-board-spec =

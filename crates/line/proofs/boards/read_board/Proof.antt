@@ -1,9 +1,9 @@
-use Rattle.line.proofs.BoardLaws.{board-1, board-2, board-3, board-4, board-all}
+use Rattle.line.proofs.BoardLaws.{board_1, board_2, board_3, board_4, board_all}
 use Rattle.line.specs.declared.boards.ReadBoard.{ReadBoard}
-use Rattle.field.specs.Readers.{hexFault, wordFault, endFault}
-use Rattle.field.proofs.Answers.{tells-hex, tells-word, tells-end}
+use Rattle.field.specs.Readers.{hex_fault, word_fault, end_fault}
+use Rattle.field.proofs.Answers.{tells_hex, tells_word, tells_end}
 use mathlib.Core.Path.{ap, ◌∙◌}
-use Rattle.field.proofs.Reading.{got-none, got-one, got-bad, as-told}
+use Rattle.field.proofs.Reading.{got_none, got_one, got_bad, as_told}
 use borrow.Author.Rules.{rules}
 use Rattle.line.proofs.boards.read_board.Statement.{statement}
 use Rattle.line.proofs.boards.read_board.Tie as tie
@@ -24,7 +24,7 @@ word-fault-requires : tie.Need-word-fault-requires
 word-fault-requires c κs = search rules
 
 returns : tie.Need-returns
-returns c = as-told (ap ReadBoard.Bad (c.word-fault.ensures ∙ ap wordFault (got-bad tells-word c.before.before.before.read_word.ensures c.before.enum_told.given.1))) (board-1 (got-none tells-word c.before.before.before.read_word.ensures c.before.enum_told.given.1))
+returns c = as_told (ap ReadBoard.Bad (c.word-fault.ensures ∙ ap word_fault (got_bad tells_word c.before.before.before.read_word.ensures c.before.enum_told.given.1))) (board_1 (got_none tells_word c.before.before.before.read_word.ensures c.before.enum_told.given.1))
 
 read-end-requires : tie.Need-read-end-requires
 read-end-requires c κs = search rules
@@ -39,8 +39,8 @@ end-fault-requires : tie.Need-end-fault-requires
 end-fault-requires c κs = search rules
 
 returns-2 : tie.Need-returns-2
-returns-2 c = let w = got-one tells-word c.before.before.before.before.before.before.before.read_word.ensures tt _ c.before.before.before.before.before.word.given.1 in
-    as-told (ap ReadBoard.Bad (c.end-fault.ensures ∙ ap endFault (got-bad tells-end c.before.before.before.read-end.ensures c.before.enum-told2.given.1))) (board-2 w (got-none tells-end c.before.before.before.read-end.ensures c.before.enum-told2.given.1))
+returns-2 c = let w = got_one tells_word c.before.before.before.before.before.before.before.read_word.ensures tt _ c.before.before.before.before.before.word.given.1 in
+    as_told (ap ReadBoard.Bad (c.end-fault.ensures ∙ ap end_fault (got_bad tells_end c.before.before.before.read-end.ensures c.before.enum-told2.given.1))) (board_2 w (got_none tells_end c.before.before.before.read-end.ensures c.before.enum-told2.given.1))
 
 read-status-requires : tie.Need-read-status-requires
 read-status-requires c κs = search rules
@@ -55,8 +55,8 @@ hex-fault-requires : tie.Need-hex-fault-requires
 hex-fault-requires c κs = search rules
 
 returns-3 : tie.Need-returns-3
-returns-3 c = let w = got-one tells-word c.before.before.before.before.before.before.before.before.before.before.before.read_word.ensures tt _ c.before.before.before.before.before.before.before.before.before.word.given.1 in
-    as-told (ap ReadBoard.Bad (c.hex-fault.ensures ∙ ap hexFault (got-bad tells-hex c.before.before.before.read-status.ensures c.before.enum-told3.given.1))) (board-3 w (got-one tells-end c.before.before.before.before.before.before.before.read-end.ensures _ _ c.before.before.before.before.before.tab.given.1) (got-none tells-hex c.before.before.before.read-status.ensures c.before.enum-told3.given.1))
+returns-3 c = let w = got_one tells_word c.before.before.before.before.before.before.before.before.before.before.before.read_word.ensures tt _ c.before.before.before.before.before.before.before.before.before.word.given.1 in
+    as_told (ap ReadBoard.Bad (c.hex-fault.ensures ∙ ap hex_fault (got_bad tells_hex c.before.before.before.read-status.ensures c.before.enum-told3.given.1))) (board_3 w (got_one tells_end c.before.before.before.before.before.before.before.read-end.ensures _ _ c.before.before.before.before.before.tab.given.1) (got_none tells_hex c.before.before.before.read-status.ensures c.before.enum-told3.given.1))
 
 read-end-requires-2 : tie.Need-read-end-requires-2
 read-end-requires-2 c κs = search rules
@@ -71,15 +71,15 @@ end-fault-requires-2 : tie.Need-end-fault-requires-2
 end-fault-requires-2 c κs = search rules
 
 returns-4 : tie.Need-returns-4
-returns-4 c = let w = got-one tells-word c.before.before.before.before.before.before.before.before.before.before.before.before.before.before.before.read_word.ensures tt _ c.before.before.before.before.before.before.before.before.before.before.before.before.before.word.given.1 in
-    as-told (ap ReadBoard.Bad (c.end-fault2.ensures ∙ ap endFault (got-bad tells-end c.before.before.before.read-end2.ensures c.before.enum-told4.given.1))) (board-4 w (got-one tells-end c.before.before.before.before.before.before.before.before.before.before.before.read-end.ensures _ _ c.before.before.before.before.before.before.before.before.before.tab.given.1) (got-one tells-hex c.before.before.before.before.before.before.before.read-status.ensures _ _ c.before.before.before.before.before.hex.given.1) (got-none tells-end c.before.before.before.read-end2.ensures c.before.enum-told4.given.1))
+returns-4 c = let w = got_one tells_word c.before.before.before.before.before.before.before.before.before.before.before.before.before.before.before.read_word.ensures tt _ c.before.before.before.before.before.before.before.before.before.before.before.before.before.word.given.1 in
+    as_told (ap ReadBoard.Bad (c.end-fault2.ensures ∙ ap end_fault (got_bad tells_end c.before.before.before.read-end2.ensures c.before.enum-told4.given.1))) (board_4 w (got_one tells_end c.before.before.before.before.before.before.before.before.before.before.before.read-end.ensures _ _ c.before.before.before.before.before.before.before.before.before.tab.given.1) (got_one tells_hex c.before.before.before.before.before.before.before.read-status.ensures _ _ c.before.before.before.before.before.hex.given.1) (got_none tells_end c.before.before.before.read-end2.ensures c.before.enum-told4.given.1))
 
 read-places-requires : tie.Need-read-places-requires
 read-places-requires c κs = search rules
 
 returns-5 : tie.Need-returns-5
-returns-5 c = let w = got-one tells-word c.before.before.before.before.before.before.before.before.before.before.before.before.before.before.before.before.read_word.ensures tt _ c.before.before.before.before.before.before.before.before.before.before.before.before.before.before.word.given.1 in
-    board-all w (got-one tells-end c.before.before.before.before.before.before.before.before.before.before.before.before.read-end.ensures _ _ c.before.before.before.before.before.before.before.before.before.before.tab.given.1) (got-one tells-hex c.before.before.before.before.before.before.before.before.read-status.ensures _ _ c.before.before.before.before.before.before.hex.given.1) (got-one tells-end c.before.before.before.before.read-end2.ensures _ _ c.before.before.end.given.1) c.read-places.ensures
+returns-5 c = let w = got_one tells_word c.before.before.before.before.before.before.before.before.before.before.before.before.before.before.before.before.read_word.ensures tt _ c.before.before.before.before.before.before.before.before.before.before.before.before.before.before.word.given.1 in
+    board_all w (got_one tells_end c.before.before.before.before.before.before.before.before.before.before.before.before.read-end.ensures _ _ c.before.before.before.before.before.before.before.before.before.before.tab.given.1) (got_one tells_hex c.before.before.before.before.before.before.before.before.read-status.ensures _ _ c.before.before.before.before.before.before.hex.given.1) (got_one tells_end c.before.before.before.before.read-end2.ensures _ _ c.before.before.end.given.1) c.read-places.ensures
 
 pub read-board-spec : {M : Type 1} → statement M
 read-board-spec =

@@ -1,8 +1,8 @@
-use Rattle.line.proofs.BoardLaws.{status-1, status-2, status-3}
+use Rattle.line.proofs.BoardLaws.{status_1, status_2, status_3}
 use borrow.Author.Tests.{not-true}
 use Rattle.law.specs.Deciding.{passed}
-use Rattle.field.proofs.Answers.{tells-hex}
-use Rattle.field.proofs.Reading.{got-none, got-one, got-bad, as-told}
+use Rattle.field.proofs.Answers.{tells_hex}
+use Rattle.field.proofs.Reading.{got_none, got_one, got_bad, as_told}
 use borrow.Author.Rules.{rules}
 use Rattle.line.proofs.boards.read_status.Statement.{statement}
 use Rattle.line.proofs.boards.read_status.Tie as tie
@@ -17,7 +17,7 @@ enum_told : tie.Need-enum-told
 enum_told c = search rules
 
 returns : tie.Need-returns
-returns c = as-told (got-bad tells-hex c.before.before.read-hex.ensures c.enum_told.given.1) (status-1 (got-none tells-hex c.before.before.read-hex.ensures c.enum_told.given.1))
+returns c = as_told (got_bad tells_hex c.before.before.read-hex.ensures c.enum_told.given.1) (status_1 (got_none tells_hex c.before.before.read-hex.ensures c.enum_told.given.1))
 
 status-ok-requires : tie.Need-status-ok-requires
 status-ok-requires c κs = search rules
@@ -26,10 +26,10 @@ cast-t8 : tie.Need-overflow-cast-t8
 cast-t8 c = search rules
 
 returns-2 : tie.Need-returns-2
-returns-2 c = status-2 (got-one tells-hex c.before.before.before.before.before.read-hex.ensures _ _ c.before.before.before.hex.given.1) (c.before.status-ok.ensures.fails (not-true _ c.if1.true))
+returns-2 c = status_2 (got_one tells_hex c.before.before.before.before.before.read-hex.ensures _ _ c.before.before.before.hex.given.1) (c.before.status-ok.ensures.fails (not-true _ c.if1.true))
 
 returns-3 : tie.Need-returns-3
-returns-3 c = status-3 (got-one tells-hex c.before.before.before.before.before.read-hex.ensures _ _ c.before.before.before.hex.given.1) (passed c.before.status-ok.ensures c.if1.false)
+returns-3 c = status_3 (got_one tells_hex c.before.before.before.before.before.read-hex.ensures _ _ c.before.before.before.hex.given.1) (passed c.before.status-ok.ensures c.if1.false)
 
 pub read-status-spec : {M : Type 1} → statement M
 read-status-spec =

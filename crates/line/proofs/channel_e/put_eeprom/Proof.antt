@@ -1,6 +1,6 @@
-use Rattle.line.proofs.EepromLaws.{put-data}
+use Rattle.line.proofs.EepromLaws.{put_data}
 use Rattle.line.proofs.Put.{put_as}
-use Rattle.line.specs.ChannelE.{spelledEeprom}
+use Rattle.line.specs.ChannelE.{spelled_eeprom}
 use borrow.Author.Rules.{rules}
 use Rattle.line.proofs.channel_e.put_eeprom.Statement.{statement}
 use Rattle.line.proofs.channel_e.put_eeprom.Tie as tie
@@ -57,24 +57,24 @@ put-word-requires-5 : tie.Need-put-word-requires-5
 put-word-requires-5 c κs = search rules
 
 returns : tie.Need-returns
-unfolding spelledEeprom
-returns c = put_as spelledEeprom _ c.before.before.enum_told.given.1 c.put_word.ensures
+unfolding spelled_eeprom
+returns c = put_as spelled_eeprom _ c.before.before.enum_told.given.1 c.put_word.ensures
 
 returns-2 : tie.Need-returns-2
-unfolding spelledEeprom
-returns-2 c = put_as spelledEeprom _ c.before.before.before.before.before.e.given.1 (put-data _ _ _ c.before.before.put-word2.ensures c.before.put-hex.ensures c.put-bit.ensures)
+unfolding spelled_eeprom
+returns-2 c = put_as spelled_eeprom _ c.before.before.before.before.before.e.given.1 (put_data _ _ _ c.before.before.put-word2.ensures c.before.put_hex.ensures c.put-bit.ensures)
 
 returns-3 : tie.Need-returns-3
-unfolding spelledEeprom
-returns-3 c = put_as spelledEeprom _ c.before.before.enum-told2.given.1 c.put-word3.ensures
+unfolding spelled_eeprom
+returns-3 c = put_as spelled_eeprom _ c.before.before.enum-told2.given.1 c.put-word3.ensures
 
 returns-4 : tie.Need-returns-4
-unfolding spelledEeprom
-returns-4 c = put_as spelledEeprom _ c.before.before.enum-told3.given.1 c.put-word4.ensures
+unfolding spelled_eeprom
+returns-4 c = put_as spelled_eeprom _ c.before.before.enum-told3.given.1 c.put-word4.ensures
 
 returns-5 : tie.Need-returns-5
-unfolding spelledEeprom
-returns-5 c = put_as spelledEeprom _ c.before.before.enum-told4.given.1 c.put-word5.ensures
+unfolding spelled_eeprom
+returns-5 c = put_as spelled_eeprom _ c.before.before.enum-told4.given.1 c.put-word5.ensures
 
 pub put-eeprom-spec : {M : Type 1} → statement M
 put-eeprom-spec =

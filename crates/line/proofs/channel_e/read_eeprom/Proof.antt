@@ -1,9 +1,9 @@
-use Rattle.line.proofs.EepromLaws.{eeprom-none, eeprom-tab, eeprom-b, eeprom-sta, eeprom-sto, eeprom-end, eeprom-cut}
+use Rattle.line.proofs.EepromLaws.{eeprom_none, eeprom_tab, eeprom_b, eeprom_sta, eeprom_sto, eeprom_end_lem, eeprom_cut}
 use Rattle.line.specs.declared.events.ReadEvent.{ReadEvent}
-use Rattle.field.specs.Readers.{wordFault, endFault}
-use Rattle.field.proofs.Answers.{tells-word, tells-end}
+use Rattle.field.specs.Readers.{word_fault, end_fault}
+use Rattle.field.proofs.Answers.{tells_word, tells_end}
 use mathlib.Core.Path.{ap, ◌∙◌}
-use Rattle.field.proofs.Reading.{got-none, got-one, got-bad, as-told}
+use Rattle.field.proofs.Reading.{got_none, got_one, got_bad, as_told}
 use borrow.Author.Rules.{rules}
 use Rattle.line.proofs.channel_e.read_eeprom.Statement.{statement}
 use Rattle.line.proofs.channel_e.read_eeprom.Tie as tie
@@ -30,15 +30,15 @@ end-fault-requires : tie.Need-end-fault-requires
 end-fault-requires c κs = search rules
 
 returns : tie.Need-returns
-returns c = let w = got-one tells-word c.before.before.before.before.before.before.before.read_word.ensures tt _ c.before.before.before.before.before.n.given.1 in
-    as-told (ap ReadEvent.Bad (c.end-fault.ensures ∙ ap endFault (got-bad tells-end c.before.before.before.read-end.ensures c.before.enum_told.given.1))) (eeprom-tab w (got-none tells-end c.before.before.before.read-end.ensures c.before.enum_told.given.1))
+returns c = let w = got_one tells_word c.before.before.before.before.before.before.before.read_word.ensures tt _ c.before.before.before.before.before.n.given.1 in
+    as_told (ap ReadEvent.Bad (c.end-fault.ensures ∙ ap end_fault (got_bad tells_end c.before.before.before.read-end.ensures c.before.enum_told.given.1))) (eeprom_tab w (got_none tells_end c.before.before.before.read-end.ensures c.before.enum_told.given.1))
 
 read-data-requires : tie.Need-read-data-requires
 read-data-requires c κs = search rules
 
 returns-2 : tie.Need-returns-2
-returns-2 c = let w = got-one tells-word c.before.before.before.before.before.before.before.before.read_word.ensures tt _ c.before.before.before.before.before.before.n.given.1 in
-    eeprom-b w (got-one tells-end c.before.before.before.before.read-end.ensures _ _ c.before.before.tab.given.1) c.read-data.ensures
+returns-2 c = let w = got_one tells_word c.before.before.before.before.before.before.before.before.read_word.ensures tt _ c.before.before.before.before.before.before.n.given.1 in
+    eeprom_b w (got_one tells_end c.before.before.before.before.read-end.ensures _ _ c.before.before.tab.given.1) c.read-data.ensures
 
 enum-told-2 : tie.Need-enum-told-2
 enum-told-2 c = search rules
@@ -56,8 +56,8 @@ read-last-requires : tie.Need-read-last-requires
 read-last-requires c κs = search rules
 
 returns-3 : tie.Need-returns-3
-returns-3 c = let w = got-one tells-word c.before.before.before.before.read-word2.ensures tt _ c.before.before.n2.given.1 in
-    eeprom-sta w c.read-last.ensures
+returns-3 c = let w = got_one tells_word c.before.before.before.before.read-word2.ensures tt _ c.before.before.n2.given.1 in
+    eeprom_sta w c.read-last.ensures
 
 enum-told-3 : tie.Need-enum-told-3
 enum-told-3 c = search rules
@@ -75,8 +75,8 @@ read-last-requires-2 : tie.Need-read-last-requires-2
 read-last-requires-2 c κs = search rules
 
 returns-4 : tie.Need-returns-4
-returns-4 c = let w = got-one tells-word c.before.before.before.before.read-word3.ensures tt _ c.before.before.n3.given.1 in
-    eeprom-sto w c.read-last2.ensures
+returns-4 c = let w = got_one tells_word c.before.before.before.before.read-word3.ensures tt _ c.before.before.n3.given.1 in
+    eeprom_sto w c.read-last2.ensures
 
 enum-told-4 : tie.Need-enum-told-4
 enum-told-4 c = search rules
@@ -94,8 +94,8 @@ read-last-requires-3 : tie.Need-read-last-requires-3
 read-last-requires-3 c κs = search rules
 
 returns-5 : tie.Need-returns-5
-returns-5 c = let w = got-one tells-word c.before.before.before.before.read-word4.ensures tt _ c.before.before.n4.given.1 in
-    eeprom-end w c.read-last3.ensures
+returns-5 c = let w = got_one tells_word c.before.before.before.before.read-word4.ensures tt _ c.before.before.n4.given.1 in
+    eeprom_end_lem w c.read-last3.ensures
 
 enum-told-5 : tie.Need-enum-told-5
 enum-told-5 c = search rules
@@ -116,14 +116,14 @@ word-fault-requires : tie.Need-word-fault-requires
 word-fault-requires c κs = search rules
 
 returns-6 : tie.Need-returns-6
-returns-6 c = as-told (ap ReadEvent.Bad (c.word-fault.ensures ∙ ap wordFault (got-bad tells-word c.before.before.before.read-word5.ensures c.before.enum-told6.given.1))) (eeprom-none (got-none tells-word c.before.before.before.before.before.before.before.before.before.before.before.before.before.before.before.read-word2.ensures c.before.before.before.before.before.before.before.before.before.before.before.before.before.enum-told3.given.1) (got-none tells-word c.before.before.before.read-word5.ensures c.before.enum-told6.given.1) (got-none tells-word c.before.before.before.before.before.before.before.before.before.before.before.read-word3.ensures c.before.before.before.before.before.before.before.before.before.enum-told4.given.1) (got-none tells-word c.before.before.before.before.before.before.before.read-word4.ensures c.before.before.before.before.before.enum-told5.given.1) (got-none tells-word c.before.before.before.before.before.before.before.before.before.before.before.before.before.before.before.before.before.before.before.read_word.ensures c.before.before.before.before.before.before.before.before.before.before.before.before.before.before.before.before.before.enum-told2.given.1))
+returns-6 c = as_told (ap ReadEvent.Bad (c.word-fault.ensures ∙ ap word_fault (got_bad tells_word c.before.before.before.read-word5.ensures c.before.enum-told6.given.1))) (eeprom_none (got_none tells_word c.before.before.before.before.before.before.before.before.before.before.before.before.before.before.before.read-word2.ensures c.before.before.before.before.before.before.before.before.before.before.before.before.before.enum-told3.given.1) (got_none tells_word c.before.before.before.read-word5.ensures c.before.enum-told6.given.1) (got_none tells_word c.before.before.before.before.before.before.before.before.before.before.before.read-word3.ensures c.before.before.before.before.before.before.before.before.before.enum-told4.given.1) (got_none tells_word c.before.before.before.before.before.before.before.read-word4.ensures c.before.before.before.before.before.enum-told5.given.1) (got_none tells_word c.before.before.before.before.before.before.before.before.before.before.before.before.before.before.before.before.before.before.before.read_word.ensures c.before.before.before.before.before.before.before.before.before.before.before.before.before.before.before.before.before.enum-told2.given.1))
 
 read-last-requires-4 : tie.Need-read-last-requires-4
 read-last-requires-4 c κs = search rules
 
 returns-7 : tie.Need-returns-7
-returns-7 c = let w = got-one tells-word c.before.before.before.before.read-word5.ensures tt _ c.before.before.word.given.1 in
-    eeprom-cut w c.read-last4.ensures
+returns-7 c = let w = got_one tells_word c.before.before.before.before.read-word5.ensures tt _ c.before.before.word.given.1 in
+    eeprom_cut w c.read-last4.ensures
 
 pub read-eeprom-spec : {M : Type 1} → statement M
 read-eeprom-spec =

@@ -1,6 +1,6 @@
-use Rattle.line.proofs.FlashLaws.{put-pair}
+use Rattle.line.proofs.FlashLaws.{put_pair}
 use Rattle.line.proofs.Put.{put_as}
-use Rattle.line.specs.ChannelF.{spelledFlash}
+use Rattle.line.specs.ChannelF.{spelled_flash}
 use borrow.Author.Rules.{rules}
 use Rattle.line.proofs.channel_f.put_flash.Statement.{statement}
 use Rattle.line.proofs.channel_f.put_flash.Tie as tie
@@ -69,24 +69,24 @@ put-word-requires-7 : tie.Need-put-word-requires-7
 put-word-requires-7 c κs = search rules
 
 returns : tie.Need-returns
-unfolding spelledFlash
-returns c = put_as spelledFlash _ c.before.before.enum_told.given.1 c.put_word.ensures
+unfolding spelled_flash
+returns c = put_as spelled_flash _ c.before.before.enum_told.given.1 c.put_word.ensures
 
 returns-2 : tie.Need-returns-2
-unfolding spelledFlash
-returns-2 c = put_as spelledFlash _ c.before.before.before.before.before.before.before.before.before.e.given.1 (put-pair _ _ _ c.before.before.before.before.before.before.put-word2.ensures c.before.before.before.before.before.put-hex.ensures c.before.before.before.put-word3.ensures c.before.before.put-hex2.ensures c.put-word4.ensures)
+unfolding spelled_flash
+returns-2 c = put_as spelled_flash _ c.before.before.before.before.before.before.before.before.before.e.given.1 (put_pair _ _ _ c.before.before.before.before.before.before.put-word2.ensures c.before.before.before.before.before.put_hex.ensures c.before.before.before.put-word3.ensures c.before.before.put-hex2.ensures c.put-word4.ensures)
 
 returns-3 : tie.Need-returns-3
-unfolding spelledFlash
-returns-3 c = put_as spelledFlash _ c.before.before.enum-told2.given.1 c.put-word5.ensures
+unfolding spelled_flash
+returns-3 c = put_as spelled_flash _ c.before.before.enum-told2.given.1 c.put-word5.ensures
 
 returns-4 : tie.Need-returns-4
-unfolding spelledFlash
-returns-4 c = put_as spelledFlash _ c.before.before.enum-told3.given.1 c.put-word6.ensures
+unfolding spelled_flash
+returns-4 c = put_as spelled_flash _ c.before.before.enum-told3.given.1 c.put-word6.ensures
 
 returns-5 : tie.Need-returns-5
-unfolding spelledFlash
-returns-5 c = put_as spelledFlash _ c.before.before.enum-told4.given.1 c.put-word7.ensures
+unfolding spelled_flash
+returns-5 c = put_as spelled_flash _ c.before.before.enum-told4.given.1 c.put-word7.ensures
 
 pub put-flash-spec : {M : Type 1} → statement M
 put-flash-spec =

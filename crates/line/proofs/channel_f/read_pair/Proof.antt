@@ -1,9 +1,9 @@
 use Rattle.line.specs.declared.events.ReadEvent.{ReadEvent}
-use Rattle.line.proofs.FlashLaws.{pair-1, pair-2, pair-3, pair-4, pair-all}
-use Rattle.field.specs.Readers.{hexFault, endFault}
-use Rattle.field.proofs.Answers.{tells-hex, tells-end}
+use Rattle.line.proofs.FlashLaws.{pair_1, pair_2, pair_3, pair_4, pair_all}
+use Rattle.field.specs.Readers.{hex_fault, end_fault}
+use Rattle.field.proofs.Answers.{tells_hex, tells_end}
 use mathlib.Core.Path.{ap, ◌∙◌}
-use Rattle.field.proofs.Reading.{got-none, got-one, got-bad, as-told}
+use Rattle.field.proofs.Reading.{got_none, got_one, got_bad, as_told}
 use borrow.Author.Rules.{rules}
 use Rattle.line.proofs.channel_f.read_pair.Statement.{statement}
 use Rattle.line.proofs.channel_f.read_pair.Tie as tie
@@ -21,7 +21,7 @@ hex-fault-requires : tie.Need-hex-fault-requires
 hex-fault-requires c κs = search rules
 
 returns : tie.Need-returns
-returns c = as-told (ap ReadEvent.Bad (c.hex-fault.ensures ∙ ap hexFault (got-bad tells-hex c.before.before.before.read-hex.ensures c.before.enum_told.given.1))) (pair-1 (got-none tells-hex c.before.before.before.read-hex.ensures c.before.enum_told.given.1))
+returns c = as_told (ap ReadEvent.Bad (c.hex-fault.ensures ∙ ap hex_fault (got_bad tells_hex c.before.before.before.read-hex.ensures c.before.enum_told.given.1))) (pair_1 (got_none tells_hex c.before.before.before.read-hex.ensures c.before.enum_told.given.1))
 
 read-end-requires : tie.Need-read-end-requires
 read-end-requires c κs = search rules
@@ -36,7 +36,7 @@ end-fault-requires : tie.Need-end-fault-requires
 end-fault-requires c κs = search rules
 
 returns-2 : tie.Need-returns-2
-returns-2 c = as-told (ap ReadEvent.Bad (c.end-fault.ensures ∙ ap endFault (got-bad tells-end c.before.before.before.read-end.ensures c.before.enum-told2.given.1))) (pair-2 (got-one tells-hex c.before.before.before.before.before.before.before.read-hex.ensures _ _ c.before.before.before.before.before.first.given.1) (got-none tells-end c.before.before.before.read-end.ensures c.before.enum-told2.given.1))
+returns-2 c = as_told (ap ReadEvent.Bad (c.end-fault.ensures ∙ ap end_fault (got_bad tells_end c.before.before.before.read-end.ensures c.before.enum-told2.given.1))) (pair_2 (got_one tells_hex c.before.before.before.before.before.before.before.read-hex.ensures _ _ c.before.before.before.before.before.first.given.1) (got_none tells_end c.before.before.before.read-end.ensures c.before.enum-told2.given.1))
 
 read-hex-requires-2 : tie.Need-read-hex-requires-2
 read-hex-requires-2 c κs = search rules
@@ -51,7 +51,7 @@ hex-fault-requires-2 : tie.Need-hex-fault-requires-2
 hex-fault-requires-2 c κs = search rules
 
 returns-3 : tie.Need-returns-3
-returns-3 c = as-told (ap ReadEvent.Bad (c.hex-fault2.ensures ∙ ap hexFault (got-bad tells-hex c.before.before.before.read-hex2.ensures c.before.enum-told3.given.1))) (pair-3 (got-one tells-hex c.before.before.before.before.before.before.before.before.before.before.before.read-hex.ensures _ _ c.before.before.before.before.before.before.before.before.before.first.given.1) (got-one tells-end c.before.before.before.before.before.before.before.read-end.ensures _ _ c.before.before.before.before.before.tab.given.1) (got-none tells-hex c.before.before.before.read-hex2.ensures c.before.enum-told3.given.1))
+returns-3 c = as_told (ap ReadEvent.Bad (c.hex-fault2.ensures ∙ ap hex_fault (got_bad tells_hex c.before.before.before.read-hex2.ensures c.before.enum-told3.given.1))) (pair_3 (got_one tells_hex c.before.before.before.before.before.before.before.before.before.before.before.read-hex.ensures _ _ c.before.before.before.before.before.before.before.before.before.first.given.1) (got_one tells_end c.before.before.before.before.before.before.before.read-end.ensures _ _ c.before.before.before.before.before.tab.given.1) (got_none tells_hex c.before.before.before.read-hex2.ensures c.before.enum-told3.given.1))
 
 read-end-requires-2 : tie.Need-read-end-requires-2
 read-end-requires-2 c κs = search rules
@@ -66,10 +66,10 @@ end-fault-requires-2 : tie.Need-end-fault-requires-2
 end-fault-requires-2 c κs = search rules
 
 returns-4 : tie.Need-returns-4
-returns-4 c = as-told (ap ReadEvent.Bad (c.end-fault2.ensures ∙ ap endFault (got-bad tells-end c.before.before.before.read-end2.ensures c.before.enum-told4.given.1))) (pair-4 (got-one tells-hex c.before.before.before.before.before.before.before.before.before.before.before.before.before.before.before.read-hex.ensures _ _ c.before.before.before.before.before.before.before.before.before.before.before.before.before.first.given.1) (got-one tells-end c.before.before.before.before.before.before.before.before.before.before.before.read-end.ensures _ _ c.before.before.before.before.before.before.before.before.before.tab.given.1) (got-one tells-hex c.before.before.before.before.before.before.before.read-hex2.ensures _ _ c.before.before.before.before.before.second.given.1) (got-none tells-end c.before.before.before.read-end2.ensures c.before.enum-told4.given.1))
+returns-4 c = as_told (ap ReadEvent.Bad (c.end-fault2.ensures ∙ ap end_fault (got_bad tells_end c.before.before.before.read-end2.ensures c.before.enum-told4.given.1))) (pair_4 (got_one tells_hex c.before.before.before.before.before.before.before.before.before.before.before.before.before.before.before.read-hex.ensures _ _ c.before.before.before.before.before.before.before.before.before.before.before.before.before.first.given.1) (got_one tells_end c.before.before.before.before.before.before.before.before.before.before.before.read-end.ensures _ _ c.before.before.before.before.before.before.before.before.before.tab.given.1) (got_one tells_hex c.before.before.before.before.before.before.before.read-hex2.ensures _ _ c.before.before.before.before.before.second.given.1) (got_none tells_end c.before.before.before.read-end2.ensures c.before.enum-told4.given.1))
 
 returns-5 : tie.Need-returns-5
-returns-5 c = pair-all (got-one tells-hex c.before.before.before.before.before.before.before.before.before.before.before.before.before.before.before.read-hex.ensures _ _ c.before.before.before.before.before.before.before.before.before.before.before.before.before.first.given.1) (got-one tells-end c.before.before.before.before.before.before.before.before.before.before.before.read-end.ensures _ _ c.before.before.before.before.before.before.before.before.before.tab.given.1) (got-one tells-hex c.before.before.before.before.before.before.before.read-hex2.ensures _ _ c.before.before.before.before.before.second.given.1) (got-one tells-end c.before.before.before.read-end2.ensures _ _ c.before.lf.given.1)
+returns-5 c = pair_all (got_one tells_hex c.before.before.before.before.before.before.before.before.before.before.before.before.before.before.before.read-hex.ensures _ _ c.before.before.before.before.before.before.before.before.before.before.before.before.before.first.given.1) (got_one tells_end c.before.before.before.before.before.before.before.before.before.before.before.read-end.ensures _ _ c.before.before.before.before.before.before.before.before.before.tab.given.1) (got_one tells_hex c.before.before.before.before.before.before.before.read-hex2.ensures _ _ c.before.before.before.before.before.second.given.1) (got_one tells_end c.before.before.before.read-end2.ensures _ _ c.before.lf.given.1)
 
 pub read-pair-spec : {M : Type 1} → statement M
 read-pair-spec =

@@ -1,5 +1,5 @@
 use Rattle.line.proofs.Put.{put_as}
-use Rattle.line.specs.ChannelL.{spelledLine}
+use Rattle.line.specs.ChannelL.{spelled_line}
 use borrow.Author.Rules.{rules}
 use Rattle.line.proofs.channel_l.put_line.Statement.{statement}
 use Rattle.line.proofs.channel_l.put_line.Tie as tie
@@ -41,20 +41,20 @@ put-word-requires-4 : tie.Need-put-word-requires-4
 put-word-requires-4 c κs = search rules
 
 returns : tie.Need-returns
-unfolding spelledLine
-returns c = put_as spelledLine _ c.before.before.enum_told.given.1 c.put_word.ensures
+unfolding spelled_line
+returns c = put_as spelled_line _ c.before.before.enum_told.given.1 c.put_word.ensures
 
 returns-2 : tie.Need-returns-2
-unfolding spelledLine
-returns-2 c = put_as spelledLine _ c.before.before.enum-told2.given.1 c.put-word2.ensures
+unfolding spelled_line
+returns-2 c = put_as spelled_line _ c.before.before.enum-told2.given.1 c.put-word2.ensures
 
 returns-3 : tie.Need-returns-3
-unfolding spelledLine
-returns-3 c = put_as spelledLine _ c.before.before.enum-told3.given.1 c.put-word3.ensures
+unfolding spelled_line
+returns-3 c = put_as spelled_line _ c.before.before.enum-told3.given.1 c.put-word3.ensures
 
 returns-4 : tie.Need-returns-4
-unfolding spelledLine
-returns-4 c = put_as spelledLine _ c.before.before.enum-told4.given.1 c.put-word4.ensures
+unfolding spelled_line
+returns-4 c = put_as spelled_line _ c.before.before.enum-told4.given.1 c.put-word4.ensures
 
 pub put-line-spec : {M : Type 1} → statement M
 put-line-spec =

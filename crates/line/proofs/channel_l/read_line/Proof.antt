@@ -1,10 +1,10 @@
 use Rattle.record.specs.declared.LineEvent.TheVariants.{SupplyOn, SupplyOff, LockOn, LockOff}
-use Rattle.line.proofs.LineLaws.{line-none, line-last}
+use Rattle.line.proofs.LineLaws.{line_none, line_last}
 use Rattle.line.specs.declared.events.ReadEvent.{ReadEvent}
-use Rattle.field.specs.Readers.{wordFault}
-use Rattle.field.proofs.Answers.{tells-word}
+use Rattle.field.specs.Readers.{word_fault}
+use Rattle.field.proofs.Answers.{tells_word}
 use mathlib.Core.Path.{ap, ◌∙◌}
-use Rattle.field.proofs.Reading.{got-none, got-one, got-bad, as-told}
+use Rattle.field.proofs.Reading.{got_none, got_one, got_bad, as_told}
 use borrow.Author.Rules.{rules}
 use Rattle.line.proofs.channel_l.read_line.Statement.{statement}
 use Rattle.line.proofs.channel_l.read_line.Tie as tie
@@ -22,8 +22,8 @@ read-last-requires : tie.Need-read-last-requires
 read-last-requires c κs = search rules
 
 returns : tie.Need-returns
-returns c = let w = got-one tells-word c.before.before.before.before.read_word.ensures tt _ c.before.before.n.given.1 in
-    line-last SupplyOn w c.read-last.ensures
+returns c = let w = got_one tells_word c.before.before.before.before.read_word.ensures tt _ c.before.before.n.given.1 in
+    line_last SupplyOn w c.read-last.ensures
 
 enum_told : tie.Need-enum-told
 enum_told c = search rules
@@ -41,8 +41,8 @@ read-last-requires-2 : tie.Need-read-last-requires-2
 read-last-requires-2 c κs = search rules
 
 returns-2 : tie.Need-returns-2
-returns-2 c = let w = got-one tells-word c.before.before.before.before.read-word2.ensures tt _ c.before.before.n2.given.1 in
-    line-last SupplyOff w c.read-last2.ensures
+returns-2 c = let w = got_one tells_word c.before.before.before.before.read-word2.ensures tt _ c.before.before.n2.given.1 in
+    line_last SupplyOff w c.read-last2.ensures
 
 enum-told-2 : tie.Need-enum-told-2
 enum-told-2 c = search rules
@@ -60,8 +60,8 @@ read-last-requires-3 : tie.Need-read-last-requires-3
 read-last-requires-3 c κs = search rules
 
 returns-3 : tie.Need-returns-3
-returns-3 c = let w = got-one tells-word c.before.before.before.before.read-word3.ensures tt _ c.before.before.n3.given.1 in
-    line-last LockOn w c.read-last3.ensures
+returns-3 c = let w = got_one tells_word c.before.before.before.before.read-word3.ensures tt _ c.before.before.n3.given.1 in
+    line_last LockOn w c.read-last3.ensures
 
 enum-told-3 : tie.Need-enum-told-3
 enum-told-3 c = search rules
@@ -82,14 +82,14 @@ word-fault-requires : tie.Need-word-fault-requires
 word-fault-requires c κs = search rules
 
 returns-4 : tie.Need-returns-4
-returns-4 c = as-told (ap ReadEvent.Bad (c.word-fault.ensures ∙ ap wordFault (got-bad tells-word c.before.before.before.read-word4.ensures c.before.enum-told4.given.1))) (line-none (got-none tells-word c.before.before.before.before.before.before.before.before.before.before.before.before.before.before.before.read_word.ensures c.before.before.before.before.before.before.before.before.before.before.before.before.before.enum_told.given.1) (got-none tells-word c.before.before.before.before.before.before.before.before.before.before.before.read-word2.ensures c.before.before.before.before.before.before.before.before.before.enum-told2.given.1) (got-none tells-word c.before.before.before.before.before.before.before.read-word3.ensures c.before.before.before.before.before.enum-told3.given.1) (got-none tells-word c.before.before.before.read-word4.ensures c.before.enum-told4.given.1))
+returns-4 c = as_told (ap ReadEvent.Bad (c.word-fault.ensures ∙ ap word_fault (got_bad tells_word c.before.before.before.read-word4.ensures c.before.enum-told4.given.1))) (line_none (got_none tells_word c.before.before.before.before.before.before.before.before.before.before.before.before.before.before.before.read_word.ensures c.before.before.before.before.before.before.before.before.before.before.before.before.before.enum_told.given.1) (got_none tells_word c.before.before.before.before.before.before.before.before.before.before.before.read-word2.ensures c.before.before.before.before.before.before.before.before.before.enum-told2.given.1) (got_none tells_word c.before.before.before.before.before.before.before.read-word3.ensures c.before.before.before.before.before.enum-told3.given.1) (got_none tells_word c.before.before.before.read-word4.ensures c.before.enum-told4.given.1))
 
 read-last-requires-4 : tie.Need-read-last-requires-4
 read-last-requires-4 c κs = search rules
 
 returns-5 : tie.Need-returns-5
-returns-5 c = let w = got-one tells-word c.before.before.before.before.read-word4.ensures tt _ c.before.before.word.given.1 in
-    line-last LockOff w c.read-last4.ensures
+returns-5 c = let w = got_one tells_word c.before.before.before.before.read-word4.ensures tt _ c.before.before.word.given.1 in
+    line_last LockOff w c.read-last4.ensures
 
 pub read-line-spec : {M : Type 1} → statement M
 read-line-spec =

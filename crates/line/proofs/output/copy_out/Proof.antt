@@ -1,4 +1,4 @@
-use Rattle.line.proofs.OutputLaws.{copy_step, wrote-not, wrote-all}
+use Rattle.line.proofs.OutputLaws.{copy_step, wrote_not, wrote_all}
 use lib.Seq.{length-take-le}
 use lib.ListN.{length, take, drop, set, get_or, length-set}
 use mathlib.Core.List.{◌++◌}
@@ -17,7 +17,7 @@ decreases-loop out₀ s n k₀ out k = n - k
 
 returns : tie.Need-returns invariant-loop decreases-loop
 returns c = let l : length c.before.args.t1.bytes ≡ 32 = search rules in
-    wrote-not _ _ (omega (arith, length-take-le c.before.args.t1.len c.before.args.t1.bytes (omega arith)))
+    wrote_not _ _ (omega (arith, length-take-le c.before.args.t1.len c.before.args.t1.bytes (omega arith)))
 
 loop-holds : tie.Need-loop-init invariant-loop decreases-loop
 loop-holds c = (omega arith, refl, refl)
@@ -45,7 +45,7 @@ returns-2 : tie.Need-returns-2 invariant-loop decreases-loop
 returns-2 c = let e = c.before.loop.invariant in
     let l : length c.before.before.before.args.t1.bytes ≡ 32 = search rules in
     let k : c.before.loop.k ≡ c.before.before.before.args.t1.len = omega arith in
-    wrote-all _ _ _ _ (sym (length-take-le c.before.before.before.args.t1.len c.before.before.before.args.t1.bytes (omega arith))) c.before.before.if1.false (rw k at e.1)
+    wrote_all _ _ _ _ (sym (length-take-le c.before.before.before.args.t1.len c.before.before.before.args.t1.bytes (omega arith))) c.before.before.if1.false (rw k at e.1)
 
 pub copy-out-spec : {M : Type 1} → statement M
 copy-out-spec =

@@ -1,6 +1,6 @@
-use Rattle.line.proofs.RecordLaws.{put-event-flash, put-event-eeprom, put-event-line}
+use Rattle.line.proofs.RecordLaws.{put_event_flash, put_event_eeprom, put_event_line}
 use Rattle.line.proofs.Put.{put_as}
-use Rattle.line.specs.Records.{spelledEvent}
+use Rattle.line.specs.Records.{spelled_event}
 use borrow.Author.Rules.{rules}
 use Rattle.line.proofs.records.put_event.Statement.{statement}
 use Rattle.line.proofs.records.put_event.Tie as tie
@@ -42,13 +42,13 @@ put-line-requires : tie.Need-put-line-requires
 put-line-requires c κs = search rules
 
 returns : tie.Need-returns
-returns c = put_as spelledEvent _ c.before.before.before.before.e.given.1 (put-event-flash _ _ c.before.put_word.ensures c.put-flash.ensures)
+returns c = put_as spelled_event _ c.before.before.before.before.e.given.1 (put_event_flash _ _ c.before.put_word.ensures c.put-flash.ensures)
 
 returns-2 : tie.Need-returns-2
-returns-2 c = put_as spelledEvent _ c.before.before.before.before.e2.given.1 (put-event-eeprom _ _ c.before.put-word2.ensures c.put-eeprom.ensures)
+returns-2 c = put_as spelled_event _ c.before.before.before.before.e2.given.1 (put_event_eeprom _ _ c.before.put-word2.ensures c.put-eeprom.ensures)
 
 returns-3 : tie.Need-returns-3
-returns-3 c = put_as spelledEvent _ c.before.before.before.before.e3.given.1 (put-event-line _ _ c.before.put-word3.ensures c.put-line.ensures)
+returns-3 c = put_as spelled_event _ c.before.before.before.before.e3.given.1 (put_event_line _ _ c.before.put-word3.ensures c.put-line.ensures)
 
 pub put-event-spec : {M : Type 1} → statement M
 put-event-spec =

@@ -1,11 +1,11 @@
-use Rattle.line.proofs.RecordLaws.{record-1, record-2, record-3, record-all}
-use Rattle.line.proofs.Apart.{tells-event}
+use Rattle.line.proofs.RecordLaws.{record_1, record_2, record_3, record_all}
+use Rattle.line.proofs.Apart.{tells_event}
 use Rattle.line.specs.declared.records.ReadRecord.{ReadRecord}
-use Rattle.line.specs.Readers.{eventFault}
-use Rattle.field.specs.Readers.{decimalFault, endFault}
-use Rattle.field.proofs.Answers.{tells-decimal, tells-end}
+use Rattle.line.specs.Readers.{event_fault}
+use Rattle.field.specs.Readers.{decimal_fault, end_fault}
+use Rattle.field.proofs.Answers.{tells_decimal, tells_end}
 use mathlib.Core.Path.{ap, ◌∙◌}
-use Rattle.field.proofs.Reading.{got-none, got-one, got-bad, as-told}
+use Rattle.field.proofs.Reading.{got_none, got_one, got_bad, as_told}
 use borrow.Author.Rules.{rules}
 use Rattle.line.proofs.records.read_record.Statement.{statement}
 use Rattle.line.proofs.records.read_record.Tie as tie
@@ -23,7 +23,7 @@ decimal-fault-requires : tie.Need-decimal-fault-requires
 decimal-fault-requires c κs = search rules
 
 returns : tie.Need-returns
-returns c = as-told (ap ReadRecord.Bad (c.decimal-fault.ensures ∙ ap decimalFault (got-bad tells-decimal c.before.before.before.read-decimal.ensures c.before.enum_told.given.1))) (record-1 (got-none tells-decimal c.before.before.before.read-decimal.ensures c.before.enum_told.given.1))
+returns c = as_told (ap ReadRecord.Bad (c.decimal-fault.ensures ∙ ap decimal_fault (got_bad tells_decimal c.before.before.before.read-decimal.ensures c.before.enum_told.given.1))) (record_1 (got_none tells_decimal c.before.before.before.read-decimal.ensures c.before.enum_told.given.1))
 
 read-end-requires : tie.Need-read-end-requires
 read-end-requires c κs = search rules
@@ -38,7 +38,7 @@ end-fault-requires : tie.Need-end-fault-requires
 end-fault-requires c κs = search rules
 
 returns-2 : tie.Need-returns-2
-returns-2 c = as-told (ap ReadRecord.Bad (c.end-fault.ensures ∙ ap endFault (got-bad tells-end c.before.before.before.read-end.ensures c.before.enum-told2.given.1))) (record-2 (got-one tells-decimal c.before.before.before.before.before.before.before.read-decimal.ensures _ _ c.before.before.before.before.before.decimal.given.1) (got-none tells-end c.before.before.before.read-end.ensures c.before.enum-told2.given.1))
+returns-2 c = as_told (ap ReadRecord.Bad (c.end-fault.ensures ∙ ap end_fault (got_bad tells_end c.before.before.before.read-end.ensures c.before.enum-told2.given.1))) (record_2 (got_one tells_decimal c.before.before.before.before.before.before.before.read-decimal.ensures _ _ c.before.before.before.before.before.decimal.given.1) (got_none tells_end c.before.before.before.read-end.ensures c.before.enum-told2.given.1))
 
 read-event-requires : tie.Need-read-event-requires
 read-event-requires c κs = search rules
@@ -53,10 +53,10 @@ event-fault-requires : tie.Need-event-fault-requires
 event-fault-requires c κs = search rules
 
 returns-3 : tie.Need-returns-3
-returns-3 c = record-3 (got-one tells-decimal c.before.before.before.before.before.before.before.before.before.before.before.read-decimal.ensures _ _ c.before.before.before.before.before.before.before.before.before.decimal.given.1) (got-one tells-end c.before.before.before.before.before.before.before.read-end.ensures _ _ c.before.before.before.before.before.tab.given.1) (c.event-fault.ensures ∙ ap eventFault (got-bad tells-event c.before.before.before.read-event.ensures c.before.enum-told3.given.1)) (got-none tells-event c.before.before.before.read-event.ensures c.before.enum-told3.given.1)
+returns-3 c = record_3 (got_one tells_decimal c.before.before.before.before.before.before.before.before.before.before.before.read-decimal.ensures _ _ c.before.before.before.before.before.before.before.before.before.decimal.given.1) (got_one tells_end c.before.before.before.before.before.before.before.read-end.ensures _ _ c.before.before.before.before.before.tab.given.1) (c.event-fault.ensures ∙ ap event_fault (got_bad tells_event c.before.before.before.read-event.ensures c.before.enum-told3.given.1)) (got_none tells_event c.before.before.before.read-event.ensures c.before.enum-told3.given.1)
 
 returns-4 : tie.Need-returns-4
-returns-4 c = record-all (got-one tells-decimal c.before.before.before.before.before.before.before.before.before.before.before.read-decimal.ensures _ _ c.before.before.before.before.before.before.before.before.before.decimal.given.1) (got-one tells-end c.before.before.before.before.before.before.before.read-end.ensures _ _ c.before.before.before.before.before.tab.given.1) (got-one tells-event c.before.before.before.read-event.ensures _ _ c.before.read.given.1)
+returns-4 c = record_all (got_one tells_decimal c.before.before.before.before.before.before.before.before.before.before.before.read-decimal.ensures _ _ c.before.before.before.before.before.before.before.before.before.decimal.given.1) (got_one tells_end c.before.before.before.before.before.before.before.read-end.ensures _ _ c.before.before.before.before.before.tab.given.1) (got_one tells_event c.before.before.before.read-event.ensures _ _ c.before.read.given.1)
 
 pub read-record-spec : {M : Type 1} → statement M
 read-record-spec =

@@ -2,7 +2,7 @@ use native.Mathlib.Omega.{arith}
 use Prim.Native.Nat.{◌≤◌}
 use Rattle.field.specs.Decimal.{largest}
 use Rattle.line.proofs.RecordLaws.{put_record}
-use Rattle.line.proofs.OutputLaws.{spelled-length-max, fits-record, wrote_as}
+use Rattle.line.proofs.OutputLaws.{spelled_length_max, fits_record, wrote_as}
 use borrow.Author.Rules.{rules}
 use Rattle.line.proofs.records.write_record.Statement.{statement}
 use Rattle.line.proofs.records.write_record.Tie as tie
@@ -24,15 +24,15 @@ put-event-requires c κs = search rules
 
 copy-out-requires : tie.Need-copy-out-requires
 copy-out-requires c κs = let small : c.before.before.before.before.before.before.before.args.rec.stamp ≤ largest = search rules in
-    let h = fits-record c.before.before.before.before.before.before.before.args.rec small (put_record c.before.before.before.before.before.before.before.args.rec c.before.before.before.before.before.no_bytes.ensures c.before.before.before.before.put-decimal.ensures c.before.before.put_word.ensures c.before.put-event.ensures) in
-    omega (arith, h.len, spelled-length-max c.before.before.before.before.before.before.before.args.rec small)
+    let h = fits_record c.before.before.before.before.before.before.before.args.rec small (put_record c.before.before.before.before.before.before.before.args.rec c.before.before.before.before.before.no_bytes.ensures c.before.before.before.before.put-decimal.ensures c.before.before.put_word.ensures c.before.put-event.ensures) in
+    omega (arith, h.len, spelled_length_max c.before.before.before.before.before.before.before.args.rec small)
 
 same_length : tie.Need-same-length
 same_length c = search rules
 
 returns : tie.Need-returns
 returns c = let small : c.before.before.before.before.before.before.before.before.before.before.args.rec.stamp ≤ largest = search rules in
-    let h = fits-record c.before.before.before.before.before.before.before.before.before.before.args.rec small (put_record c.before.before.before.before.before.before.before.before.before.before.args.rec c.before.before.before.before.before.before.before.before.no_bytes.ensures c.before.before.before.before.before.before.before.put-decimal.ensures c.before.before.before.before.before.put_word.ensures c.before.before.before.before.put-event.ensures) in
+    let h = fits_record c.before.before.before.before.before.before.before.before.before.before.args.rec small (put_record c.before.before.before.before.before.before.before.before.before.before.args.rec c.before.before.before.before.before.before.before.before.no_bytes.ensures c.before.before.before.before.before.before.before.put-decimal.ensures c.before.before.before.before.before.put_word.ensures c.before.before.before.before.put-event.ensures) in
     wrote_as h.bytes c.before.before.copy-out.ensures
 
 pub write-record-spec : {M : Type 1} → statement M

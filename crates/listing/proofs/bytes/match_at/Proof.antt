@@ -1,4 +1,4 @@
-use Rattle.listing.specs.Bytes.{matchAt}
+use Rattle.listing.specs.Bytes.{match_at}
 use borrow.Author.Rules.{rules}
 use Rattle.listing.proofs.bytes.match_at.Statement.{statement}
 use Rattle.listing.proofs.bytes.match_at.Tie as tie
@@ -16,7 +16,7 @@ match-of-requires : tie.Need-match-of-requires
 match-of-requires c κs = search rules
 
 returns : tie.Need-returns
-unfolding matchAt
+unfolding match_at
 returns c = c.match-of.ensures
 
 pub match-at-spec : {M : Type 1} → statement M

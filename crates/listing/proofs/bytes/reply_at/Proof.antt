@@ -1,4 +1,4 @@
-use Rattle.listing.specs.Bytes.{replyAt}
+use Rattle.listing.specs.Bytes.{reply_at}
 use borrow.Author.Rules.{rules}
 use Rattle.listing.proofs.bytes.reply_at.Statement.{statement}
 use Rattle.listing.proofs.bytes.reply_at.Tie as tie
@@ -25,7 +25,7 @@ reply-of-requires : tie.Need-reply-of-requires
 reply-of-requires c κs = search rules
 
 returns : tie.Need-returns
-unfolding replyAt
+unfolding reply_at
 returns c = c.reply-of.ensures
 
 pub reply-at-spec : {M : Type 1} → statement M

@@ -1,6 +1,6 @@
-use Rattle.listing.proofs.Lengths.{last-length, fits}
-use Rattle.listing.proofs.Whole.{rewritten, line-written}
-use Rattle.listing.specs.Lines.{lastLine}
+use Rattle.listing.proofs.Lengths.{last_length, fits}
+use Rattle.listing.proofs.Whole.{rewritten, line_written}
+use Rattle.listing.specs.Lines.{last_line}
 use native.Mathlib.Omega.{arith}
 use borrow.Author.Rules.{rules}
 use Rattle.listing.proofs.ends.list_last.Statement.{statement}
@@ -19,13 +19,13 @@ last-line-requires : tie.Need-last-line-requires
 last-line-requires c κs = search rules
 
 copy-line-requires : tie.Need-copy-line-requires
-copy-line-requires c κs = (fits _ c.before.last_Line.ensures (last-length _ _ _ (search rules) (search rules) (search rules)), omega arith)
+copy-line-requires c κs = (fits _ c.before.last_Line.ensures (last_length _ _ _ (search rules) (search rules) (search rules)), omega arith)
 
 same_length : tie.Need-same-length
 same_length c = search rules
 
 returns : tie.Need-returns
-returns c = rewritten (λ i. lastLine (c.before.before.before.before.before.before.before.number_at.ensures i) (c.before.before.before.before.before.before.number-at2.ensures i) (c.before.before.before.before.before.number-at3.ensures i)) (line-written _ _ _ _ _ c.before.before.before.before.last_Line.ensures (last-length _ _ _ (search rules) (search rules) (search rules)) c.before.before.Copy-Line.ensures.0 c.before.before.Copy-Line.ensures.1)
+returns c = rewritten (λ i. last_line (c.before.before.before.before.before.before.before.number_at.ensures i) (c.before.before.before.before.before.before.number-at2.ensures i) (c.before.before.before.before.before.number-at3.ensures i)) (line_written _ _ _ _ _ c.before.before.before.before.last_Line.ensures (last_length _ _ _ (search rules) (search rules) (search rules)) c.before.before.Copy-Line.ensures.0 c.before.before.Copy-Line.ensures.1)
 
 pub list-last-spec : {M : Type 1} → statement M
 list-last-spec =

@@ -1,4 +1,4 @@
-use Rattle.listing.proofs.Putting.{put-heading}
+use Rattle.listing.proofs.Putting.{put_heading}
 use borrow.Author.Rules.{rules}
 use Rattle.listing.proofs.lines.heading_line.Statement.{statement}
 use Rattle.listing.proofs.lines.heading_line.Tie as tie
@@ -13,7 +13,7 @@ put-word-requires : tie.Need-put-word-requires
 put-word-requires c κs = search rules
 
 returns : tie.Need-returns
-returns c = put-heading c.before.before.no_bytes.ensures c.put_word.ensures
+returns c = put_heading c.before.before.no_bytes.ensures c.put_word.ensures
 
 pub heading-line-spec : {M : Type 1} → statement M
 heading-line-spec =

@@ -1,4 +1,4 @@
-use Rattle.listing.proofs.Putting.{put-page}
+use Rattle.listing.proofs.Putting.{put_page}
 use borrow.Author.Rules.{rules}
 use Rattle.listing.proofs.lines.page_line.Statement.{statement}
 use Rattle.listing.proofs.lines.page_line.Tie as tie
@@ -34,7 +34,7 @@ put-word-requires-3 : tie.Need-put-word-requires-3
 put-word-requires-3 c κs = search rules
 
 returns : tie.Need-returns
-returns c = put-page _ _ _ c.before.before.before.before.before.before.before.before.before.no_bytes.ensures c.before.before.before.before.before.before.before.before.put-chip.ensures c.before.before.before.before.before.before.put_word.ensures c.before.before.before.before.before.put-decimal.ensures c.before.before.before.put-word2.ensures c.before.before.put-decimal2.ensures c.put-word3.ensures
+returns c = put_page _ _ _ c.before.before.before.before.before.before.before.before.before.no_bytes.ensures c.before.before.before.before.before.before.before.before.put-chip.ensures c.before.before.before.before.before.before.put_word.ensures c.before.before.before.before.before.put-decimal.ensures c.before.before.before.put-word2.ensures c.before.before.put-decimal2.ensures c.put-word3.ensures
 
 pub page-line-spec : {M : Type 1} → statement M
 page-line-spec =

@@ -1,4 +1,4 @@
-use Rattle.listing.proofs.Putting.{put-pages-heading}
+use Rattle.listing.proofs.Putting.{put_pages_heading}
 use borrow.Author.Rules.{rules}
 use Rattle.listing.proofs.lines.pages_heading_line.Statement.{statement}
 use Rattle.listing.proofs.lines.pages_heading_line.Tie as tie
@@ -13,7 +13,7 @@ put-word-requires : tie.Need-put-word-requires
 put-word-requires c κs = search rules
 
 returns : tie.Need-returns
-returns c = put-pages-heading c.before.before.no_bytes.ensures c.put_word.ensures
+returns c = put_pages_heading c.before.before.no_bytes.ensures c.put_word.ensures
 
 pub pages-heading-line-spec : {M : Type 1} → statement M
 pages-heading-line-spec =

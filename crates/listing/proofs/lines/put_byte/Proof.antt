@@ -16,7 +16,7 @@ put-hex-requires-2 : tie.Need-put-hex-requires-2
 put-hex-requires-2 c κs = search rules
 
 returns : tie.Need-returns
-returns c = put_byte _ _ _ c.before.before.before.put-hex.ensures c.before.put_word.ensures c.put-hex2.ensures
+returns c = put_byte _ _ _ c.before.before.before.put_hex.ensures c.before.put_word.ensures c.put-hex2.ensures
 
 pub put-byte-spec : {M : Type 1} → statement M
 put-byte-spec =

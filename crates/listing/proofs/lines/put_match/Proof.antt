@@ -1,5 +1,5 @@
 use Rattle.line.proofs.Put.{put_as}
-use Rattle.listing.specs.Lines.{matchText}
+use Rattle.listing.specs.Lines.{match_text}
 use borrow.Author.Rules.{rules}
 use Rattle.listing.proofs.lines.put_match.Statement.{statement}
 use Rattle.listing.proofs.lines.put_match.Tie as tie
@@ -32,16 +32,16 @@ put-word-requires-3 : tie.Need-put-word-requires-3
 put-word-requires-3 c κs = search rules
 
 returns : tie.Need-returns
-unfolding matchText
-returns c = put_as matchText _ c.before.before.enum_told.given.1 c.put_word.ensures
+unfolding match_text
+returns c = put_as match_text _ c.before.before.enum_told.given.1 c.put_word.ensures
 
 returns-2 : tie.Need-returns-2
-unfolding matchText
-returns-2 c = put_as matchText _ c.before.before.enum-told2.given.1 c.put-word2.ensures
+unfolding match_text
+returns-2 c = put_as match_text _ c.before.before.enum-told2.given.1 c.put-word2.ensures
 
 returns-3 : tie.Need-returns-3
-unfolding matchText
-returns-3 c = put_as matchText _ c.before.before.enum-told3.given.1 c.put-word3.ensures
+unfolding match_text
+returns-3 c = put_as match_text _ c.before.before.enum-told3.given.1 c.put-word3.ensures
 
 pub put-match-spec : {M : Type 1} → statement M
 put-match-spec =

@@ -1,7 +1,7 @@
 use Rattle.line.proofs.Put.{put_as}
 use mathlib.Core.Path.{sym}
-use Rattle.field.proofs.SpellingLaws.{put-none}
-use Rattle.listing.specs.Lines.{replyText}
+use Rattle.field.proofs.SpellingLaws.{put_none}
+use Rattle.listing.specs.Lines.{reply_text}
 use borrow.Author.Rules.{rules}
 use Rattle.listing.proofs.lines.put_reply.Statement.{statement}
 use Rattle.listing.proofs.lines.put_reply.Tie as tie
@@ -70,36 +70,36 @@ put-word-requires-6 : tie.Need-put-word-requires-6
 put-word-requires-6 c κs = search rules
 
 returns : tie.Need-returns
-unfolding replyText
-returns c = put_as replyText _ c.enum_told.given.1 (sym (put-none _))
+unfolding reply_text
+returns c = put_as reply_text _ c.enum_told.given.1 (sym (put_none _))
 
 returns-2 : tie.Need-returns-2
-unfolding replyText
-returns-2 c = put_as replyText _ c.before.before.enum-told2.given.1 c.put_word.ensures
+unfolding reply_text
+returns-2 c = put_as reply_text _ c.before.before.enum-told2.given.1 c.put_word.ensures
 
 returns-3 : tie.Need-returns-3
-unfolding replyText
-returns-3 c = put_as replyText _ c.before.before.reply.given.1 c.put_byte.ensures
+unfolding reply_text
+returns-3 c = put_as reply_text _ c.before.before.reply.given.1 c.put_byte.ensures
 
 returns-4 : tie.Need-returns-4
-unfolding replyText
-returns-4 c = put_as replyText _ c.before.before.enum-told3.given.1 c.put-word2.ensures
+unfolding reply_text
+returns-4 c = put_as reply_text _ c.before.before.enum-told3.given.1 c.put-word2.ensures
 
 returns-5 : tie.Need-returns-5
-unfolding replyText
-returns-5 c = put_as replyText _ c.before.before.enum-told4.given.1 c.put-word3.ensures
+unfolding reply_text
+returns-5 c = put_as reply_text _ c.before.before.enum-told4.given.1 c.put-word3.ensures
 
 returns-6 : tie.Need-returns-6
-unfolding replyText
-returns-6 c = put_as replyText _ c.before.before.enum-told5.given.1 c.put-word4.ensures
+unfolding reply_text
+returns-6 c = put_as reply_text _ c.before.before.enum-told5.given.1 c.put-word4.ensures
 
 returns-7 : tie.Need-returns-7
-unfolding replyText
-returns-7 c = put_as replyText _ c.before.before.enum-told6.given.1 c.put-word5.ensures
+unfolding reply_text
+returns-7 c = put_as reply_text _ c.before.before.enum-told6.given.1 c.put-word5.ensures
 
 returns-8 : tie.Need-returns-8
-unfolding replyText
-returns-8 c = put_as replyText _ c.before.before.enum-told7.given.1 c.put-word6.ensures
+unfolding reply_text
+returns-8 c = put_as reply_text _ c.before.before.enum-told7.given.1 c.put-word6.ensures
 
 pub put-reply-spec : {M : Type 1} → statement M
 put-reply-spec =

@@ -1,4 +1,4 @@
-use Rattle.listing.proofs.Putting.{put-record-line}
+use Rattle.listing.proofs.Putting.{put_record_line}
 use borrow.Author.Rules.{rules}
 use Rattle.listing.proofs.lines.record_line.Statement.{statement}
 use Rattle.listing.proofs.lines.record_line.Tie as tie
@@ -43,7 +43,7 @@ put-word-requires-4 : tie.Need-put-word-requires-4
 put-word-requires-4 c κs = search rules
 
 returns : tie.Need-returns
-returns c = put-record-line _ _ _ _ c.before.before.before.before.before.before.before.before.before.before.before.before.no_bytes.ensures c.before.before.before.before.before.before.before.before.before.before.before.put-decimal.ensures c.before.before.before.before.before.before.before.before.before.put_word.ensures c.before.before.before.before.before.before.before.before.put-decimal2.ensures c.before.before.before.before.before.before.put-word2.ensures c.before.before.before.before.before.put-reply.ensures c.before.before.before.put-word3.ensures c.before.before.put-match.ensures c.put-word4.ensures
+returns c = put_record_line _ _ _ _ c.before.before.before.before.before.before.before.before.before.before.before.before.no_bytes.ensures c.before.before.before.before.before.before.before.before.before.before.before.put-decimal.ensures c.before.before.before.before.before.before.before.before.before.put_word.ensures c.before.before.before.before.before.before.before.before.put-decimal2.ensures c.before.before.before.before.before.before.put-word2.ensures c.before.before.before.before.before.put-reply.ensures c.before.before.before.put-word3.ensures c.before.before.put-match.ensures c.put-word4.ensures
 
 pub record-line-spec : {M : Type 1} → statement M
 record-line-spec =

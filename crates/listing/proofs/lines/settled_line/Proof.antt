@@ -1,4 +1,4 @@
-use Rattle.listing.proofs.Putting.{put-settled}
+use Rattle.listing.proofs.Putting.{put_settled}
 use borrow.Author.Rules.{rules}
 use Rattle.listing.proofs.lines.settled_line.Statement.{statement}
 use Rattle.listing.proofs.lines.settled_line.Tie as tie
@@ -22,7 +22,7 @@ put-word-requires-2 : tie.Need-put-word-requires-2
 put-word-requires-2 c κs = search rules
 
 returns : tie.Need-returns
-returns c = put-settled _ c.before.before.before.before.before.no_bytes.ensures c.before.before.before.put_word.ensures c.before.before.put-decimal.ensures c.put-word2.ensures
+returns c = put_settled _ c.before.before.before.before.before.no_bytes.ensures c.before.before.before.put_word.ensures c.before.before.put-decimal.ensures c.put-word2.ensures
 
 pub settled-line-spec : {M : Type 1} → statement M
 settled-line-spec =

@@ -1,4 +1,4 @@
-use Rattle.listing.proofs.Putting.{put-stop}
+use Rattle.listing.proofs.Putting.{put_stop}
 use borrow.Author.Rules.{rules}
 use Rattle.listing.proofs.lines.stop_line.Statement.{statement}
 use Rattle.listing.proofs.lines.stop_line.Tie as tie
@@ -31,7 +31,7 @@ put-word-requires-3 : tie.Need-put-word-requires-3
 put-word-requires-3 c κs = search rules
 
 returns : tie.Need-returns
-returns c = put-stop _ _ c.before.before.before.before.before.before.before.before.no_bytes.ensures c.before.before.before.before.before.before.put_word.ensures c.before.before.before.before.before.put-decimal.ensures c.before.before.before.put-word2.ensures c.before.before.put-decimal2.ensures c.put-word3.ensures
+returns c = put_stop _ _ c.before.before.before.before.before.before.before.before.no_bytes.ensures c.before.before.before.before.before.before.put_word.ensures c.before.before.before.before.before.put-decimal.ensures c.before.before.before.put-word2.ensures c.before.before.put-decimal2.ensures c.put-word3.ensures
 
 pub stop-line-spec : {M : Type 1} → statement M
 stop-line-spec =

@@ -1,7 +1,7 @@
 use Rattle.listing.proofs.PagesWalk.{few, begun, one_more, all_listed}
-use Rattle.listing.specs.Pages.{linesBelow, timeAt}
+use Rattle.listing.specs.Pages.{lines_below, time_at}
 use Rattle.listing.specs.Writing.{ListsLines}
-use Rattle.times.specs.Times.{pagesOf, firstEntry}
+use Rattle.times.specs.Times.{pages_of, first_entry}
 use lib.ListN.{length}
 use mathlib.Core.Path.{◌≡◌, refl}
 use native.Mathlib.Omega.{arith}
@@ -11,7 +11,7 @@ use Rattle.listing.proofs.pages.list_chip.Statement.{statement}
 use Rattle.listing.proofs.pages.list_chip.Tie as tie
 
 abbrev invariant-loop : tie.invariant-loop
-invariant-loop table chip out₀ from many at₀ n₀ out at n = (n ≤ many) × (length out ≡ length out₀) × ListsLines (linesBelow chip (λ k. timeAt table (firstEntry chip + k)) n) out₀ at₀ n out at
+invariant-loop table chip out₀ from many at₀ n₀ out at n = (n ≤ many) × (length out ≡ length out₀) × ListsLines (lines_below chip (λ k. time_at table (first_entry chip + k)) n) out₀ at₀ n out at
 
 abbrev decreases-loop : tie.decreases-loop
 decreases-loop table chip out₀ from many at₀ n₀ out at n = many - n
@@ -23,7 +23,7 @@ loop-holds : tie.Need-loop-init invariant-loop decreases-loop
 loop-holds c = (omega arith, refl, begun _ _ _ _)
 
 list-page-requires : tie.Need-list-page-requires invariant-loop decreases-loop
-list-page-requires c κs = let m : c.before.before.before.pages-of.result ≡ pagesOf c.before.before.before.before.before.before.args.chip = c.before.before.before.pages-of.ensures in let l : c.before.before.loop.n < pagesOf c.before.before.before.before.before.before.args.chip = omega (arith, m, c.before.loop-test.true) in let h = few c.before.before.before.before.before.before.args.chip c.before.before.loop.n l in (search rules, l, omega (arith, h, c.before.before.loop.invariant.2.space, c.before.before.loop.invariant.1, c.before.before.before.before.before.before.requires.1))
+list-page-requires c κs = let m : c.before.before.before.pages-of.result ≡ pages_of c.before.before.before.before.before.before.args.chip = c.before.before.before.pages-of.ensures in let l : c.before.before.loop.n < pages_of c.before.before.before.before.before.before.args.chip = omega (arith, m, c.before.loop-test.true) in let h = few c.before.before.before.before.before.before.args.chip c.before.before.loop.n l in (search rules, l, omega (arith, h, c.before.before.loop.invariant.2.space, c.before.before.loop.invariant.1, c.before.before.before.before.before.before.requires.1))
 
 add-n : tie.Need-overflow-add-n invariant-loop decreases-loop
 add-n c = omega arith
@@ -38,7 +38,7 @@ same_length : tie.Need-same-length invariant-loop decreases-loop
 same_length c = c.before.loop.invariant.1
 
 returns : tie.Need-returns invariant-loop decreases-loop
-returns c = let m : c.before.before.pages-of.result ≡ pagesOf c.before.before.before.before.before.args.chip = c.before.before.pages-of.ensures in all_listed _ _ (omega (arith, m, c.before.loop.invariant.0, c.loop-test.false)) c.before.loop.invariant.2
+returns c = let m : c.before.before.pages-of.result ≡ pages_of c.before.before.before.before.before.args.chip = c.before.before.pages-of.ensures in all_listed _ _ (omega (arith, m, c.before.loop.invariant.0, c.loop-test.false)) c.before.loop.invariant.2
 
 pub list-chip-spec : {M : Type 1} → statement M
 list-chip-spec =

@@ -21,7 +21,7 @@ same-length-2 : tie.Need-same-length-2
 same-length-2 c = search rules
 
 returns-2 : tie.Need-returns-2
-returns-2 c = simp (c.before.before.before.before.before.before.before.before.before.pages.given.1, c.before.before.before.before.program-by.ensures)
+returns-2 c = simp (c.before.before.before.before.before.before.before.before.before.pages.given.1, c.before.before.before.before.program_by_lem.ensures)
 
 enum-told-2 : tie.Need-enum-told-2
 enum-told-2 c = search rules
@@ -36,7 +36,7 @@ same-length-4 : tie.Need-same-length-4
 same-length-4 c = search rules
 
 returns-3 : tie.Need-returns-3
-returns-3 c = simp (c.before.before.before.before.before.before.before.enum-told2.given.1, c.before.before.before.before.erase-by.ensures)
+returns-3 c = simp (c.before.before.before.before.before.before.before.enum-told2.given.1, c.before.before.before.before.erase_by_lem.ensures)
 
 pub change-flash-spec : {M : Type 1} → statement M
 change-flash-spec =

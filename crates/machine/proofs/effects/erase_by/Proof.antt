@@ -36,7 +36,7 @@ same-length-4 : tie.Need-same-length-4
 same-length-4 c = search rules
 
 returns-3 : tie.Need-returns-3
-returns-3 c = simp (c.before.before.before.before.before.before.before.enum-told3.given.1, c.before.before.before.before.cut-erase.ensures)
+returns-3 c = simp (c.before.before.before.before.before.before.before.enum-told3.given.1, c.before.before.before.before.cut_erase.ensures)
 
 pub erase-by-spec : {M : Type 1} → statement M
 erase-by-spec =

@@ -1,4 +1,4 @@
-use Rattle.merged.proofs.LengthLaws.{eepromLength, eeprom-length}
+use Rattle.merged.proofs.LengthLaws.{eeprom_length, eeprom_length_lem}
 use mathlib.Core.Path.{sym, ap, ◌∙◌}
 use borrow.Author.Rules.{rules}
 use Rattle.merged.proofs.length.eeprom_length.Statement.{statement}
@@ -20,19 +20,19 @@ enum-told-5 : tie.Need-enum-told-5
 enum-told-5 c = search rules
 
 returns : tie.Need-returns
-returns c = ap eepromLength (sym c.enum_told.given.1) ∙ eeprom-length _
+returns c = ap eeprom_length (sym c.enum_told.given.1) ∙ eeprom_length_lem _
 
 returns-2 : tie.Need-returns-2
-returns-2 c = ap eepromLength (sym c.enum-told2.given.1) ∙ eeprom-length _
+returns-2 c = ap eeprom_length (sym c.enum-told2.given.1) ∙ eeprom_length_lem _
 
 returns-3 : tie.Need-returns-3
-returns-3 c = ap eepromLength (sym c.enum-told3.given.1) ∙ eeprom-length _
+returns-3 c = ap eeprom_length (sym c.enum-told3.given.1) ∙ eeprom_length_lem _
 
 returns-4 : tie.Need-returns-4
-returns-4 c = ap eepromLength (sym c.enum-told4.given.1) ∙ eeprom-length _
+returns-4 c = ap eeprom_length (sym c.enum-told4.given.1) ∙ eeprom_length_lem _
 
 returns-5 : tie.Need-returns-5
-returns-5 c = ap eepromLength (sym c.enum-told5.given.1) ∙ eeprom-length _
+returns-5 c = ap eeprom_length (sym c.enum-told5.given.1) ∙ eeprom_length_lem _
 
 pub eeprom-length-spec : {M : Type 1} → statement M
 eeprom-length-spec =

@@ -1,7 +1,7 @@
 use mathlib.Core.Path.{sym, ap, ◌∙◌}
 use lib.ListN.{length}
 use Rattle.record.specs.declared.Event.{Event}
-use Rattle.line.specs.Records.{spelledEvent}
+use Rattle.line.specs.Records.{spelled_event}
 use borrow.Author.Rules.{rules}
 use Rattle.merged.proofs.length.event_length.Statement.{statement}
 use Rattle.merged.proofs.length.event_length.Tie as tie
@@ -25,13 +25,13 @@ wire-length-requires : tie.Need-wire-length-requires
 wire-length-requires c κs = search rules
 
 returns : tie.Need-returns
-returns c = c.flash-length.ensures ∙ ap (λ (e : Event). length (spelledEvent e)) (sym c.before.before.event.given.1)
+returns c = c.flash_length_lem.ensures ∙ ap (λ (e : Event). length (spelled_event e)) (sym c.before.before.event.given.1)
 
 returns-2 : tie.Need-returns-2
-returns-2 c = c.eeprom-length.ensures ∙ ap (λ (e : Event). length (spelledEvent e)) (sym c.before.before.event2.given.1)
+returns-2 c = c.eeprom_length_lem.ensures ∙ ap (λ (e : Event). length (spelled_event e)) (sym c.before.before.event2.given.1)
 
 returns-3 : tie.Need-returns-3
-returns-3 c = c.wire-length.ensures ∙ ap (λ (e : Event). length (spelledEvent e)) (sym c.before.before.event3.given.1)
+returns-3 c = c.wire_length_lem.ensures ∙ ap (λ (e : Event). length (spelled_event e)) (sym c.before.before.event3.given.1)
 
 pub event-length-spec : {M : Type 1} → statement M
 event-length-spec =

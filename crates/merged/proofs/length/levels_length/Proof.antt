@@ -3,12 +3,12 @@ use borrow.Author.Rules.{rules}
 use native.Mathlib.Omega.{arith}
 use Prim.Native.Nat.{◌-◌, ◌*◌, ◌≤◌}
 use lib.ListN.{length}
-use Rattle.field.proofs.Reading.{got-none, got-one}
-use Rattle.level.proofs.LevelLaws.{tells-level}
+use Rattle.field.proofs.Reading.{got_none, got_one}
+use Rattle.level.proofs.LevelLaws.{tells_level}
 use Rattle.capture.proofs.OneByOne.{some_level, behind}
 use Rattle.capture.specs.OneByOne.{levels}
 use Rattle.merged.specs.Writing.{longest}
-use Rattle.merged.proofs.CountLaws.{CountingLevels, levels-start, levels-none, levels-end, levels-next}
+use Rattle.merged.proofs.CountLaws.{CountingLevels, levels_start, levels_none, levels_end, levels_next}
 use Rattle.merged.proofs.length.levels_length.Statement.{statement}
 use Rattle.merged.proofs.length.levels_length.Tie as tie
 
@@ -25,7 +25,7 @@ of-wires-requires : tie.Need-of-wires-requires invariant-loop decreases-loop
 of-wires-requires c κs = search rules
 
 loop-holds : tie.Need-loop-init invariant-loop decreases-loop
-loop-holds c = (omega arith, omega arith, levels-start c.before.of-flash.ensures c.of-wires.ensures)
+loop-holds c = (omega arith, omega arith, levels_start c.before.of_flash_lem.ensures c.of-wires.ensures)
 
 read-level-requires : tie.Need-read-level-requires invariant-loop decreases-loop
 read-level-requires c κs = search rules
@@ -37,7 +37,7 @@ enum_told : tie.Need-enum-told invariant-loop decreases-loop
 enum_told c = search rules
 
 returns : tie.Need-returns invariant-loop decreases-loop
-returns c = (levels-none c.before.before.before.before.loop.invariant.2 c.before.before.before.loop-test.true (got-none tells-level c.before.before.read-level.ensures c.enum_told.given.1), omega (arith, c.before.before.before.before.loop.invariant.1, c.before.before.before.before.before.before.before.before.requires))
+returns c = (levels_none c.before.before.before.before.loop.invariant.2 c.before.before.before.loop-test.true (got_none tells_level c.before.before.read-level.ensures c.enum_told.given.1), omega (arith, c.before.before.before.before.loop.invariant.1, c.before.before.before.before.before.before.before.before.requires))
 
 turn-requires : tie.Need-turn-requires invariant-loop decreases-loop
 turn-requires c κs = search rules
@@ -59,14 +59,14 @@ add-sum-2 c = omega (arith, c.before.before.before.before.before.before.before.b
 
 loop-less : tie.Need-loop-smaller invariant-loop decreases-loop
 unfolding levels
-loop-less c = let l = behind some_level (got-one tells-level c.before.before.before.before.before.before.before.read-level.ensures _ _ c.before.before.before.before.before.l.given.1) in omega arith
+loop-less c = let l = behind some_level (got_one tells_level c.before.before.before.before.before.before.before.read-level.ensures _ _ c.before.before.before.before.before.l.given.1) in omega arith
 
 loop-again : tie.Need-loop-preserved invariant-loop decreases-loop
 unfolding levels
-loop-again c = let g = got-one tells-level c.before.before.before.before.before.before.before.read-level.ensures _ _ c.before.before.before.before.before.l.given.1 in let l = behind some_level g in (omega (arith, c.before.before.before.before.before.before.before.before.before.loop.invariant.0, c.before.out-length.ensures.1, c.out-length2.ensures.1), omega (arith, c.before.before.before.before.before.before.before.before.before.loop.invariant.0, c.before.out-length.ensures.1, c.out-length2.ensures.1), levels-next c.before.before.before.before.before.before.before.before.before.loop.invariant.2 g c.before.before.before.turn.ensures c.before.before.turn2.ensures c.before.out-length.ensures.0 c.out-length2.ensures.0)
+loop-again c = let g = got_one tells_level c.before.before.before.before.before.before.before.read-level.ensures _ _ c.before.before.before.before.before.l.given.1 in let l = behind some_level g in (omega (arith, c.before.before.before.before.before.before.before.before.before.loop.invariant.0, c.before.out-length.ensures.1, c.out-length2.ensures.1), omega (arith, c.before.before.before.before.before.before.before.before.before.loop.invariant.0, c.before.out-length.ensures.1, c.out-length2.ensures.1), levels_next c.before.before.before.before.before.before.before.before.before.loop.invariant.2 g c.before.before.before.turn.ensures c.before.before.turn2.ensures c.before.out-length.ensures.0 c.out-length2.ensures.0)
 
 returns-2 : tie.Need-returns-2 invariant-loop decreases-loop
-returns-2 c = (levels-end c.before.loop.invariant.2 c.loop-test.false, omega (arith, c.before.loop.invariant.1, c.before.before.before.before.before.requires))
+returns-2 c = (levels_end c.before.loop.invariant.2 c.loop-test.false, omega (arith, c.before.loop.invariant.1, c.before.before.before.before.before.requires))
 
 pub levels-length-spec : {M : Type 1} → statement M
 levels-length-spec =

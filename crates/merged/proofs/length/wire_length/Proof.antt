@@ -1,4 +1,4 @@
-use Rattle.merged.proofs.LengthLaws.{wireLength, wire-length}
+use Rattle.merged.proofs.LengthLaws.{wire_length, wire_length_lem}
 use mathlib.Core.Path.{sym, ap, ◌∙◌}
 use borrow.Author.Rules.{rules}
 use Rattle.merged.proofs.length.wire_length.Statement.{statement}
@@ -17,16 +17,16 @@ enum-told-4 : tie.Need-enum-told-4
 enum-told-4 c = search rules
 
 returns : tie.Need-returns
-returns c = ap wireLength (sym c.enum_told.given.1) ∙ wire-length _
+returns c = ap wire_length (sym c.enum_told.given.1) ∙ wire_length_lem _
 
 returns-2 : tie.Need-returns-2
-returns-2 c = ap wireLength (sym c.enum-told2.given.1) ∙ wire-length _
+returns-2 c = ap wire_length (sym c.enum-told2.given.1) ∙ wire_length_lem _
 
 returns-3 : tie.Need-returns-3
-returns-3 c = ap wireLength (sym c.enum-told3.given.1) ∙ wire-length _
+returns-3 c = ap wire_length (sym c.enum-told3.given.1) ∙ wire_length_lem _
 
 returns-4 : tie.Need-returns-4
-returns-4 c = ap wireLength (sym c.enum-told4.given.1) ∙ wire-length _
+returns-4 c = ap wire_length (sym c.enum-told4.given.1) ∙ wire_length_lem _
 
 pub wire-length-spec : {M : Type 1} → statement M
 wire-length-spec =

@@ -1,12 +1,12 @@
 use mathlib.Core.Path.{sym, ◌∙◌}
 use lib.Seq.{length-take-le}
-use Rattle.printing.proofs.MergeLaws.{merge-short, merge-accepted, line-whole, line-room, merge-refused}
+use Rattle.printing.proofs.MergeLaws.{merge_short, merge_accepted, line_whole, line_room, merge_refused}
 use borrow.Author.Rules.{rules}
 use Rattle.printing.proofs.merge.print_merge.Statement.{statement}
 use Rattle.printing.proofs.merge.print_merge.Tie as tie
 
 returns : tie.Need-returns
-returns c = merge-short c.if1.true
+returns c = merge_short c.if1.true
 
 slice-aggregate-merge : tie.Need-slice-aggregate-merge
 slice-aggregate-merge c = search rules
@@ -27,7 +27,7 @@ same_length : tie.Need-same-length
 same_length c = search rules
 
 returns-2 : tie.Need-returns-2
-returns-2 c = merge-accepted c.before.before.before.before.before.before.before.before.before.if1.false (search rules) c.before.before.before.before.before.before.merge.ensures c.before.before.if2.true c.count_of.ensures
+returns-2 c = merge_accepted c.before.before.before.before.before.before.before.before.before.if1.false (search rules) c.before.before.before.before.before.before.merge.ensures c.before.before.if2.true c.count_of.ensures
 
 slice-aggregate-refusal-of : tie.Need-slice-aggregate-refusal-of
 slice-aggregate-refusal-of c = search rules
@@ -36,25 +36,25 @@ refusal-of-requires : tie.Need-refusal-of-requires
 refusal-of-requires c κs = search rules
 
 array-share-prefix-bytes : tie.Need-array-share-prefix-bytes
-array-share-prefix-bytes c = line-whole c.before.before.before.before.before.before.before.before.before.before.if1.false (search rules) c.before.before.before.before.before.before.before.merge.ensures c.before.before.before.if2.false c.before.refusal-of.ensures
+array-share-prefix-bytes c = line_whole c.before.before.before.before.before.before.before.before.before.before.if1.false (search rules) c.before.before.before.before.before.before.before.merge.ensures c.before.before.before.if2.false c.before.refusal-of.ensures
 
 slice-aggregate-copy : tie.Need-slice-aggregate-copy
-slice-aggregate-copy c = sym (length-take-le _ _ (line-whole c.before.before.before.before.before.before.before.before.before.before.before.if1.false (search rules) c.before.before.before.before.before.before.before.before.merge.ensures c.before.before.before.before.if2.false c.before.before.refusal-of.ensures))
+slice-aggregate-copy c = sym (length-take-le _ _ (line_whole c.before.before.before.before.before.before.before.before.before.before.before.if1.false (search rules) c.before.before.before.before.before.before.before.before.merge.ensures c.before.before.before.before.if2.false c.before.before.refusal-of.ensures))
 
 slice-relend-prefix-copy : tie.Need-slice-relend-prefix-copy
-slice-relend-prefix-copy c = line-room c.before.before.before.before.before.before.before.before.before.before.before.if1.false (search rules) c.before.before.before.before.before.before.before.before.merge.ensures c.before.before.before.before.if2.false c.before.before.refusal-of.ensures
+slice-relend-prefix-copy c = line_room c.before.before.before.before.before.before.before.before.before.before.before.if1.false (search rules) c.before.before.before.before.before.before.before.before.merge.ensures c.before.before.before.before.if2.false c.before.before.refusal-of.ensures
 
 slice-aggregate-copy-2 : tie.Need-slice-aggregate-copy-2
-slice-aggregate-copy-2 c = sym (length-take-le _ _ (line-room c.before.before.before.before.before.before.before.before.before.before.before.before.if1.false (search rules) c.before.before.before.before.before.before.before.before.before.merge.ensures c.before.before.before.before.before.if2.false c.before.before.before.refusal-of.ensures))
+slice-aggregate-copy-2 c = sym (length-take-le _ _ (line_room c.before.before.before.before.before.before.before.before.before.before.before.before.if1.false (search rules) c.before.before.before.before.before.before.before.before.before.merge.ensures c.before.before.before.before.before.if2.false c.before.before.before.refusal-of.ensures))
 
 copy-requires : tie.Need-copy-requires
-copy-requires c κs = length-take-le _ _ (line-whole c.before.before.before.before.before.before.before.before.before.before.before.before.if1.false (search rules) c.before.before.before.before.before.before.before.before.before.merge.ensures c.before.before.before.before.before.if2.false c.before.before.before.refusal-of.ensures) ∙ sym (length-take-le _ _ (line-room c.before.before.before.before.before.before.before.before.before.before.before.before.if1.false (search rules) c.before.before.before.before.before.before.before.before.before.merge.ensures c.before.before.before.before.before.if2.false c.before.before.before.refusal-of.ensures))
+copy-requires c κs = length-take-le _ _ (line_whole c.before.before.before.before.before.before.before.before.before.before.before.before.if1.false (search rules) c.before.before.before.before.before.before.before.before.before.merge.ensures c.before.before.before.before.before.if2.false c.before.before.before.refusal-of.ensures) ∙ sym (length-take-le _ _ (line_room c.before.before.before.before.before.before.before.before.before.before.before.before.if1.false (search rules) c.before.before.before.before.before.before.before.before.before.merge.ensures c.before.before.before.before.before.if2.false c.before.before.before.refusal-of.ensures))
 
 same-length-2 : tie.Need-same-length-2
 same-length-2 c = search rules
 
 returns-3 : tie.Need-returns-3
-returns-3 c = merge-refused c.before.before.before.before.before.before.before.before.before.before.before.before.before.before.before.if1.false (search rules) c.before.before.before.before.before.before.before.before.before.before.before.before.merge.ensures c.before.before.before.before.before.before.before.before.if2.false c.before.before.before.before.before.before.refusal-of.ensures c.before.before.copy.ensures
+returns-3 c = merge_refused c.before.before.before.before.before.before.before.before.before.before.before.before.before.before.before.if1.false (search rules) c.before.before.before.before.before.before.before.before.before.before.before.before.merge.ensures c.before.before.before.before.before.before.before.before.if2.false c.before.before.before.before.before.before.refusal-of.ensures c.before.before.copy.ensures
 
 pub print-merge-spec : {M : Type 1} → statement M
 print-merge-spec =

@@ -16,10 +16,10 @@ enum_told : tie.Need-enum-told
 enum_told c = search rules
 
 returns : tie.Need-returns
-returns c = simp (c.before.before.before.before.e.given.1, via c.before.before.flash-bus.ensures c.enum_told.given.1)
+returns c = simp (c.before.before.before.before.e.given.1, via c.before.before.flash_bus_lem.ensures c.enum_told.given.1)
 
 returns-2 : tie.Need-returns-2
-returns-2 c = simp (c.before.before.before.before.before.e.given.1, via c.before.before.before.flash-bus.ensures c.before.next.given.1)
+returns-2 c = simp (c.before.before.before.before.before.e.given.1, via c.before.before.before.flash_bus_lem.ensures c.before.next.given.1)
 
 enum-known-e-2 : tie.Need-enum-known-e-2
 enum-known-e-2 c = search rules
@@ -34,10 +34,10 @@ enum-told-2 : tie.Need-enum-told-2
 enum-told-2 c = search rules
 
 returns-3 : tie.Need-returns-3
-returns-3 c = simp (c.before.before.before.before.e2.given.1, via c.before.before.eeprom-bus.ensures c.enum-told2.given.1)
+returns-3 c = simp (c.before.before.before.before.e2.given.1, via c.before.before.eeprom_bus_lem.ensures c.enum-told2.given.1)
 
 returns-4 : tie.Need-returns-4
-returns-4 c = simp (c.before.before.before.before.before.e2.given.1, via c.before.before.before.eeprom-bus.ensures c.before.next2.given.1)
+returns-4 c = simp (c.before.before.before.before.before.e2.given.1, via c.before.before.before.eeprom_bus_lem.ensures c.before.next2.given.1)
 
 enum-told-3 : tie.Need-enum-told-3
 enum-told-3 c = search rules

@@ -3,7 +3,7 @@ use borrow.Author.Rules.{rules}
 use native.Mathlib.Omega.{arith}
 use Prim.Native.Nat.{◌-◌, ◌≤◌}
 use lib.ListN.{length}
-use Rattle.weave.proofs.PassLaws.{Passing, pass-begin, pass-byte, pass-line}
+use Rattle.weave.proofs.PassLaws.{Passing, pass_begin, pass_byte, pass_line}
 use Rattle.weave.proofs.feed.line_with.Statement.{statement}
 use Rattle.weave.proofs.feed.line_with.Tie as tie
 
@@ -14,7 +14,7 @@ abbrev decreases-loop : tie.decreases-loop
 decreases-loop trace from letter start₀ k₀ start k = length trace - k
 
 loop-holds : tie.Need-loop-init invariant-loop decreases-loop
-loop-holds c = (pass-begin _ _ _, omega arith, omega arith)
+loop-holds c = (pass_begin _ _ _, omega arith, omega arith)
 
 shared-slice-read-b : tie.Need-shared-slice-read-b invariant-loop decreases-loop
 shared-slice-read-b c = search rules
@@ -29,13 +29,13 @@ loop-less : tie.Need-loop-smaller invariant-loop decreases-loop
 loop-less c = search rules
 
 loop-again : tie.Need-loop-preserved invariant-loop decreases-loop
-loop-again c = let i = c.before.before.before.before.loop.invariant in (pass-line i.0 c.before.before.before.loop-test.true c.before.if1.false c.if2.true, omega (arith, i.1, i.2), omega arith)
+loop-again c = let i = c.before.before.before.before.loop.invariant in (pass_line i.0 c.before.before.before.loop-test.true c.before.if1.false c.if2.true, omega (arith, i.1, i.2), omega arith)
 
 loop-less-2 : tie.Need-loop-smaller-2 invariant-loop decreases-loop
 loop-less-2 c = search rules
 
 loop-again-2 : tie.Need-loop-preserved-2 invariant-loop decreases-loop
-loop-again-2 c = let i = c.before.before.before.before.loop.invariant in (pass-byte i.0 c.before.before.before.loop-test.true c.before.if1.false c.if2.false, i.1, omega (arith, i.2))
+loop-again-2 c = let i = c.before.before.before.before.loop.invariant in (pass_byte i.0 c.before.before.before.loop-test.true c.before.if1.false c.if2.false, i.1, omega (arith, i.2))
 
 returns-2 : tie.Need-returns-2 invariant-loop decreases-loop
 returns-2 c = let i = c.before.loop.invariant in (i.0.passes, i.1)
