@@ -1,5 +1,7 @@
 // The lent buffers of a replay: whether they fit, and what is written to the result and to the replies; the table of times has a room of its own. And the result of a plan.
 // A buffer of another length than the documents give it is left alone.
+#![tactic(auto)]
+
 ghost use Rattle.std.specs.Prelude.{◌≡◌, [], ◌∷◌, ◌+◌, ◌≤◌, length, replicate};
 ghost use Rattle.std.proofs.lemmas.List.Edits.{sets};
 ghost use Rattle.record.specs.Replies.{reply_bytes};

@@ -1,4 +1,6 @@
 // What is taken from the logger's trace, and what can be wrong with a line of the capture (document 02, request 4/12).
+#![tactic(auto)]
+
 ghost use Rattle.std.specs.Prelude.{◌≡◌};
 ghost use Rattle.capture.specs.Taken.{flash_end, eeprom_end, is_of, taken};
 

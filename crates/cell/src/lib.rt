@@ -1,4 +1,6 @@
 // One kept byte: its value, and a mask of the bits that are in doubt. A doubtful bit is 0 in the value.
+#![tactic(auto)]
+
 ghost use Rattle.std.specs.Prelude.{◌≡◌};
 ghost use Rattle.cell.specs.Rules.{erased_cell, doubtful_cell, stored_cell, programmed_cell, cut_cell, agrees_cell};
 

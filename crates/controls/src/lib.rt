@@ -1,4 +1,6 @@
 // Both chips' controls and the two lines: what one record does to them, and its skeleton reply.
+#![tactic(auto)]
+
 ghost use Rattle.std.specs.Prelude.{◌≡◌};
 ghost use Rattle.law.specs.Deciding.{Decides};
 ghost use Rattle.controls.specs.Play.{start_of, moved_of, lost_of, flash_moved, eeprom_moved, line_moved};

@@ -1,4 +1,6 @@
 // Levels into events: one decoder for the flash's lines, one for the two wires, each stepped by a line of the capture and the next.
+#![tactic(auto)]
+
 ghost use Rattle.std.specs.Prelude.{◌≡◌};
 ghost use Rattle.decode.specs.Bits.{pushed};
 

@@ -1,5 +1,7 @@
 // The replay on the caller's own buffers: what the desk's viewer, a C program, calls. And the plan, the merge and the second engine, for the repair shop's programs: all that is exported stands here.
 // A stamp is judged before a byte of it is played, so nothing is ever undone and no image is copied.
+#![tactic(auto)]
+
 ghost use Rattle.std.specs.Prelude.{◌≡◌, ◌+◌, ◌≤◌, min, length, take, replicate};
 ghost use Rattle.meaning.specs.Channels.{most_in_all};
 ghost use Rattle.text.specs.Texts.{text_limit};

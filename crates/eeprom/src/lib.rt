@@ -1,5 +1,7 @@
 // The control of the EEPROM AT24C256C (document 01, 'EEPROM rules', 'Supply'): its frame, its write cycle with the data, and its counter.
 // It asks for no byte of the image: a read only says which place it delivers.
+#![tactic(auto)]
+
 ghost use Rattle.std.specs.Prelude.{◌≡◌};
 ghost use Rattle.law.specs.Deciding.{Decides};
 ghost use Rattle.eeprom.specs.Chip.{start_of, answered, in_frame, silent_in};

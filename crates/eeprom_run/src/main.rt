@@ -1,5 +1,7 @@
 // Plays short traces of channel E on a chip that is wired to address 5 and prints what it replies: a line for each trace, in the listing's words, with a
 // fetched byte's place. The expected text is written from document 01, 'EEPROM rules' and 'Supply'.
+#![tactic(auto)]
+
 use eeprom::{Eeprom, EepromCycle};
 use libc::STDOUT_FILENO;
 use record::{EepromEvent, LineEvent, Lines, Skeleton};

@@ -1,5 +1,7 @@
 // The second engine (document 02, request 4/12): the levels are played straight through, record by record as they arise, on the caller's own images. No trace is written and no stamp
 // gathered, and no order tried.
+#![tactic(auto)]
+
 ghost use Rattle.std.specs.Prelude.{◌≡◌};
 ghost use Rattle.image.specs.Images.{images_of};
 ghost use Rattle.engine.specs.Playing.{lent_of, played_as, Plays};

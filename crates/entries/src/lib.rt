@@ -1,4 +1,6 @@
 // What the program `plan` prints (document 02, request 6/12): the entries of the plan, one a line, and its number of cycles, or the refusal.
+#![tactic(auto)]
+
 ghost use Rattle.std.specs.Prelude.{◌≡◌, length};
 ghost use Rattle.std.proofs.lemmas.List.Edits.{sets};
 ghost use Rattle.entries.specs.Printed.{PrintsPlan};

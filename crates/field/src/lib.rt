@@ -1,6 +1,8 @@
 // One field of a line, read at a cursor and written (document 01, 'The trace'): a decimal, two hex digits, one digit, a word; and its end.
 // Each reader is told the field's number and refuses with the number of the field that is bad: where a content does not begin as it must, or goes on
 // where it must end, with its own; where it ends and its end is not there, with the next.
+#![tactic(auto)]
+
 mod decimal;
 mod digit;
 mod ending;

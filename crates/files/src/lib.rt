@@ -1,4 +1,6 @@
 // The files that the programs read. Of the bytes that come from outside no promise can speak; of their number it does.
+#![tactic(auto)]
+
 ghost use Rattle.std.specs.Prelude.{length};
 ghost use Rattle.files.specs.Files.{Moves, Within, Loads};
 

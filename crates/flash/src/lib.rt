@@ -1,5 +1,7 @@
 // The control of the flash chip AT25F1024A (document 01, 'Flash rules' and 'Supply'): frames, instructions, cycles and the status.
 // No byte of the image is ever asked for: a read says only which place it delivers.
+#![tactic(auto)]
+
 ghost use Rattle.std.specs.Prelude.{◌≡◌};
 ghost use Rattle.law.specs.Deciding.{Decides};
 ghost use Rattle.flash.specs.Code.{sector_locked};

@@ -1,6 +1,8 @@
 // Plays scripts of channels F and L on the flash's control and writes each reply, and the chip's state at the end of each line. `stdin` has the scripts and
 // `stdout` what document 01 says of them, both made by expected.py, which knows nothing of this code.
 // Lower-case hex digits type a byte; B starts a chip with that status, W watches that sector, S X C D E are `sel x cut des end`, N O L F `on off lock free`.
+#![tactic(auto)]
+
 use flash::{Flash, FlashCycle, FlashFrame, FlashStatus, LockFact, Op};
 use record::{FlashEvent, LineEvent, Lines, Skeleton};
 

@@ -1,5 +1,7 @@
 // The kept bytes of one chip, lent as values and masks of doubtful bits: what a cycle makes of them, whole or cut by the supply.
 // An image has its own length. Values and masks of two lengths, and a page number that no page has, are left alone.
+#![tactic(auto)]
+
 ghost use Rattle.std.specs.Prelude.{◌≡◌, ◌+◌, ◌*◌, ◌≤◌, ◌<◌, length};
 ghost use Rattle.law.specs.Words.{by_place};
 ghost use Rattle.page.specs.Geometry.{flash_page, eeprom_page};

@@ -1,5 +1,7 @@
 // Pages of both images as `view` shows them, and what it refuses. In both images each two bytes tell their page: its number's low byte, then f0 and the
 // number's high byte in the flash image, e0 and the high byte in the EEPROM image. A page is printed by its length, its first two bytes and its last two.
+#![tactic(auto)]
+
 ghost use Rattle.std.specs.Prelude.{◌<◌, ◌≤◌};
 
 use record::Chip;

@@ -1,4 +1,6 @@
 // Both texts are judged before anything is written or played: the logger's trace whole, then the level text's length, then its first bad line (document 02, request 4/12).
+#![tactic(auto)]
+
 ghost use Rattle.std.specs.Prelude.{◌≡◌};
 ghost use Rattle.capture.specs.Captures.{first_fault, later_fault};
 ghost use Rattle.judge.specs.Checking.{reached_by, Reaches, ChecksLevels};

@@ -1,5 +1,7 @@
 // What every floor cites: laws about choices, yes-or-no answers, lists and places, and the equality of enums by their numbers.
 // It knows nothing of chips or traces.
+#![tactic(auto)]
+
 ghost use Rattle.std.specs.Prelude.{◌≡◌, false};
 ghost use Rattle.law.specs.Words.{pick};
 ghost use Rattle.law.specs.Numbers.{numbers_of};

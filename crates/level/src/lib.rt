@@ -1,4 +1,6 @@
 // One line of the analyser's capture (document 02, request 4/12): a stamp, then the levels of CS, SCK, SI, SO, HOLD, SCL and SDA; and what two lines in turn must not show.
+#![tactic(auto)]
+
 ghost use Rattle.std.specs.Prelude.{◌≡◌, true, false};
 ghost use Rattle.law.specs.Words.{pick};
 ghost use Rattle.level.specs.Rest.{falls, rises, changes, resting, spi_clash, wires_clash, clash};

@@ -1,5 +1,7 @@
 // What is printed of a replay, formatted into a lent buffer: a heading, a line for each record that was played (document 01, 'One listing in full') or for each
 // page that was written (document 02, request 1/12), and a last line; or a refusal alone.
+#![tactic(auto)]
+
 ghost use Rattle.std.specs.Prelude.{◌≡◌, ◌≤◌, length};
 ghost use Rattle.field.specs.Room.{room};
 ghost use Rattle.record.specs.Lengths.{replies_length};

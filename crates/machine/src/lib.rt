@@ -1,4 +1,6 @@
 // One record on the machine: controls and lent images, with the reply and how it compares.
+#![tactic(auto)]
+
 ghost use Rattle.std.specs.Prelude.{◌≡◌};
 ghost use Rattle.image.specs.Images.{images_of};
 ghost use Rattle.machine.specs.Turn.{turn, turn_of};

@@ -1,4 +1,6 @@
 // Reads levels.tsv and logger.tsv of the current folder and prints the merged trace (document 02, request 4/12); the line of a refusal goes to the standard error.
+#![tactic(auto)]
+
 use files::File;
 use libc::{STDERR_FILENO, STDOUT_FILENO};
 

@@ -1,4 +1,6 @@
 // The merged text (document 02, request 4/12): whether there is room for it first, then its lines, so that an output that is too short stays as it is.
+#![tactic(auto)]
+
 ghost use Rattle.std.specs.Prelude.{◌≡◌, ◌≤◌, length};
 ghost use Rattle.text.specs.Texts.{text_limit};
 ghost use Rattle.merged.specs.Merging.{outputs_of, wrote_as, Merges};

@@ -1,5 +1,7 @@
 // Every order of one stamp's records: at each place either the next line record or the next bus record comes first.
 // Only control is played, by value; no image is looked at.
+#![tactic(auto)]
+
 ghost use Rattle.std.specs.Prelude.{◌≡◌, true, ◌+◌, ◌<◌};
 ghost use Rattle.law.specs.Deciding.{Decides};
 ghost use Rattle.law.specs.Words.{All};

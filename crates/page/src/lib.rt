@@ -1,4 +1,6 @@
 // The chips' geometry; the place after one, in a page and in a whole chip; whether two pages are the same.
+#![tactic(auto)]
+
 ghost use Rattle.std.specs.Prelude.{◌≡◌, ◌≤◌};
 ghost use Rattle.law.specs.Deciding.{Decides};
 ghost use Rattle.page.specs.Rolling.{rolled_in};

@@ -1,4 +1,6 @@
 // Reads trace.tsv and the dumps of the current folder and prints the pages that were written, each with the stamp of its last writing (document 02, request 1/12).
+#![tactic(auto)]
+
 use files::File;
 use libc::STDOUT_FILENO;
 

@@ -1,4 +1,6 @@
 // Reads present.bin, wanted.bin and status.txt of the current folder and prints the plan that refills the chip with the fewest write cycles (document 02, request 6/12).
+#![tactic(auto)]
+
 use files::File;
 use libc::STDOUT_FILENO;
 

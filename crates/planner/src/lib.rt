@@ -1,5 +1,7 @@
 // The fewest write cycles that refill a flash: which sectors are erased and which pages programmed, written out as a list (document 02, request 6/12).
 // A page or sector is looked at whole, so that a machine may look at many bytes at once.
+#![tactic(auto)]
+
 ghost use Rattle.std.specs.Prelude.{◌≡◌, true, false, [], ◌∷◌, suc, ◌+◌, ◌≤◌, ◌<◌, length};
 ghost use Rattle.std.proofs.lemmas.List.Edits.{sets};
 ghost use Rattle.law.specs.Words.{pick};

@@ -1,5 +1,7 @@
 // What the programs print of a text and of dumps (document 01, 'One listing in full'; document 02, request 1/12): the text is replayed on the dumps' images, and what
 // the call left is listed.
+#![tactic(auto)]
+
 ghost use Rattle.std.specs.Prelude.{◌≡◌, ◌≤◌, length, take, replicate};
 ghost use Rattle.image.specs.Image.{image_of};
 ghost use Rattle.record.specs.Lengths.{replies_length, result_length};

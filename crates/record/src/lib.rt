@@ -1,4 +1,6 @@
 // The vocabulary of document 01: events, records, the board, the two lines, replies and answers, with the paper's number for each case.
+#![tactic(auto)]
+
 ghost use Rattle.std.specs.Prelude.{◌≡◌};
 ghost use Rattle.law.specs.Deciding.{Decides};
 ghost use Rattle.record.specs.Answers.{answer_number, plan_answer_number, levels_answer_number};

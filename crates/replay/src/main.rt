@@ -1,4 +1,6 @@
 // Reads trace.tsv and the dumps of the current folder and prints the listing of the replay (document 01, 'One listing in full').
+#![tactic(auto)]
+
 use files::File;
 use libc::STDOUT_FILENO;
 

@@ -1,4 +1,6 @@
 // One stamp of a text: its records are read, held together and judged, before anything is played.
+#![tactic(auto)]
+
 ghost use Rattle.std.specs.Prelude.{◌≡◌, true, [], ◌≤◌};
 ghost use Rattle.meaning.specs.Meaning.{F, E, L, most};
 ghost use Rattle.meaning.specs.Channels.{most_in_all};

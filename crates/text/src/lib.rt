@@ -1,4 +1,6 @@
 // The whole text of a trace: how it begins to be wrong (document 01, refusals 2 to 5), and its records one after another.
+#![tactic(auto)]
+
 mod buses;
 mod checking;
 mod reader;

@@ -1,5 +1,7 @@
 // Every malformed form, each impossible record and falling stamps, each printed with the number, the line and the field that it is refused with (0, 0 and 0
 // where the text can be replayed); then lines that are read and written back, and boards that are written. What is printed is compared with `stdout`.
+#![tactic(auto)]
+
 mod show;
 
 use show::{again, answer, board};

@@ -1,4 +1,6 @@
 // The last writing time of each page (document 02, request 1/12): which pages a cycle touches, and the table that a caller lends for the times.
+#![tactic(auto)]
+
 ghost use Rattle.std.specs.Prelude.{◌≡◌};
 ghost use Rattle.times.specs.Times.{written, pages_of, first_entry, entry_byte};
 ghost use Rattle.times.specs.Put.{entries_with, pages_with, times_with};

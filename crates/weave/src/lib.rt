@@ -1,4 +1,6 @@
 // The records of both texts in one order: a feed for each part, each by itself in order, and the first of the least heads is next.
+#![tactic(auto)]
+
 ghost use Rattle.std.specs.Prelude.{◌≡◌, ◌<◌};
 ghost use Rattle.decode.specs.declared.Out.TheVariants.{Nothing};
 ghost use Rattle.capture.specs.declared.Part.{Part};
