@@ -12,14 +12,14 @@ ghost use Rattle.record.specs.LineRules.{lines_after, lines_at_start, goes_off, 
 use law::Numbers;
 
 // The chips whose bytes are kept.
-#[derive(Drop)]
+#[derive(Clone, Copy)]
 pub enum Chip {
     Flash,
     Eeprom,
 }
 
 // Channel F. A byte goes each way: SI, then SO.
-#[derive(Drop)]
+#[derive(Clone, Copy)]
 pub enum FlashEvent {
     Select,
     Byte(u8, u8),
@@ -29,7 +29,7 @@ pub enum FlashEvent {
 }
 
 // Channel E. A byte comes with its acknowledge bit: true is 1, not acknowledged.
-#[derive(Drop)]
+#[derive(Clone, Copy)]
 pub enum EepromEvent {
     Start,
     Byte(u8, bool),
@@ -39,7 +39,7 @@ pub enum EepromEvent {
 }
 
 // Channel L.
-#[derive(Drop)]
+#[derive(Clone, Copy)]
 pub enum LineEvent {
     SupplyOn,
     SupplyOff,
@@ -47,21 +47,21 @@ pub enum LineEvent {
     LockOff,
 }
 
-#[derive(Drop)]
+#[derive(Clone, Copy)]
 pub enum Event {
     Flash(FlashEvent),
     Eeprom(EepromEvent),
     Line(LineEvent),
 }
 
-#[derive(Drop)]
+#[derive(Clone, Copy)]
 pub struct Record {
     pub stamp: u32,
     pub event: Event,
 }
 
 // Line 1 of a trace: the flash's status at the start, the watched sector, the EEPROM's wired address.
-#[derive(Drop)]
+#[derive(Clone, Copy)]
 pub struct Board {
     pub status: u8,
     pub sector: u8,
@@ -82,14 +82,14 @@ pub fn status_ok(status: u8) -> bool
 }
 
 // The common supply and the lock net.
-#[derive(Drop)]
+#[derive(Clone, Copy)]
 pub struct Lines {
     pub supply: bool,
     pub lock: bool,
 }
 
 // A chip's reply as far as its control knows it: a fetched byte is only told by its place.
-#[derive(Drop)]
+#[derive(Clone, Copy)]
 pub enum Skeleton {
     Silent,
     Given(u8),
@@ -102,7 +102,7 @@ pub enum Skeleton {
 }
 
 // A record's reply. A byte has a value and a mask of its doubtful bits.
-#[derive(Drop)]
+#[derive(Clone, Copy)]
 pub enum Reply {
     NotPlayed,
     Silent,
@@ -115,7 +115,7 @@ pub enum Reply {
 }
 
 // How a reply compares with what was recorded.
-#[derive(Drop)]
+#[derive(Clone, Copy)]
 pub enum Match {
     Nothing,
     Agrees,
@@ -190,7 +190,7 @@ pub const RESULT: usize = 16;
 pub const PLAN_RESULT: usize = 8;
 
 // What a replay answers.
-#[derive(Drop)]
+#[derive(Clone, Copy)]
 pub enum Answer {
     Settled,
     BadBuffers,
@@ -221,7 +221,7 @@ pub fn answer_number(a: Answer) -> u32
 }
 
 // What a plan answers.
-#[derive(Drop)]
+#[derive(Clone, Copy)]
 pub enum PlanAnswer {
     Planned,
     Unfit,
@@ -242,7 +242,7 @@ pub fn plan_answer_number(a: PlanAnswer) -> u32
 }
 
 // What is answered to levels and a logger's trace beside 0 to 5.
-#[derive(Drop)]
+#[derive(Clone, Copy)]
 pub enum LevelsAnswer {
     BadLevel,
     Together,
