@@ -72,11 +72,11 @@ module _ {A S R : Type 0} (m : Rules A S R) where
   at_first P a [] h = h.0
   at_first P a (x ∷ o) h = h.0
 
-  at_place : (P : List A → Type 0) (a : A) {o q : List A} → All P (places a o) → Put a o q → P q
+  at_place : (a : A) (P : List A → Type 0) {o q : List A} → All P (places a o) → Put a o q → P q
   unfolding places All behind
-  at_place P a {o} h first = at_first P a o h
-  at_place P a h (later {x = x} {o = o} e k) =
-      at_place (λ q. P (x ∷ q)) a (all_mapped P (λ q. x ∷ q) (places a o) (subst (λ (t : Bool). All P (behind t x (places a o))) e h.1)) k
+  at_place a P {o} h first = at_first P a o h
+  at_place a P h (later {x = x} {o = o} e k) =
+      at_place a (λ q. P (x ∷ q)) (all_mapped P (λ q. x ∷ q) (places a o) (subst (λ (t : Bool). All P (behind t x (places a o))) e h.1)) k
 
   put_behind : (t : Bool) (a x : A) (o : List A) → same (m.channel a) (m.channel x) ≡ t → (l : List (List A)) → All (Put a o) l → All (Put a (x ∷ o)) (behind t x l)
   unfolding behind All
@@ -118,7 +118,7 @@ module _ {A S R : Type 0} (m : Rules A S R) where
   all_orders [] P h o k = subst P (sym (keeps_nothing o k)) h.0
   all_orders (a ∷ rs) P h o k =
       let r = taken a o (of m (m.channel a) rs) (k (m.channel a) ∙ ap (λ (t : Bool). keep t a (of m (m.channel a) rs)) (same_self (m.channel a))) in
-      at_place P a (all_orders rs (λ q. All P (places a q)) (all_gathered P (places a) (orders rs) h) r.0 (λ d. keep_cancel (same d (m.channel a)) a _ _ (sym (put_keeps r.1 d) ∙ k d))) r.1
+      at_place a P (all_orders rs (λ q. All P (places a q)) (all_gathered P (places a) (orders rs) h) r.0 (λ d. keep_cancel (same d (m.channel a)) a _ _ (sym (put_keeps r.1 d) ∙ k d))) r.1
 
   pub orders_keep : (rs : List A) → All (Keeps rs) (orders rs)
   unfolding orders All filter
