@@ -77,21 +77,33 @@ quietly() {
 }
 
 LIBRARY=target/staticlib/libdesk.a
-# Each program is there under its own name.
-PROGRAMS=target/bin
 
-# The proved library. It is proved and built anew unless it is younger than every file of the crates.
-build_library() {
-  if [ -e "$LIBRARY" ] && [ -z "$(find crates crates.txt -newer "$LIBRARY" -print -quit)" ]; then return 0; fi
-  need_rt || return 1
-  rm -f "$LIBRARY"
-  quietly target/tests/library.log rt staticlib desk
+# built_since FILE FOLDER..: whether the file is younger than every file of these, but for what rt makes of them.
+built_since() {
+  local file=$1
+  shift
+  [ -e "$file" ] && [ -z "$(find "$@" -name out -prune -o -type f -newer "$file" -print -quit)" ]
 }
 
-# build_program NAME: a program, proved and built; rt itself knows what has changed.
-build_program() {
+# The proved library, an archive for C. It is proved and built anew unless it is younger than every file of the crates.
+build_library() {
+  built_since "$LIBRARY" crates crates.txt && return 0
   need_rt || return 1
-  quietly "target/tests/$1.log" rt check "$1"
+  rm -f "$LIBRARY"
+  mkdir -p "$(dirname "$LIBRARY")" && quietly target/tests/library.log rt lib desk_c && cp crates/desk_c/out/libdesk_c.a "$LIBRARY"
+}
+
+# program NAME: where the program lies, once it is built.
+program() { echo "crates/$1/out/$1"; }
+
+# build_program NAME: a program, proved and built, unless it is younger than every file of the crates. `rt run` builds it, and
+# runs it once, on the files beside its source.
+build_program() {
+  built_since "$(program "$1")" crates crates.txt && return 0
+  need_rt || return 1
+  rm -f "$(program "$1")"
+  quietly "target/tests/$1.log" rt run "$1" || true
+  [ -e "$(program "$1")" ]
 }
 
 # run_program NAME EXAMPLE [FOLDER]: what tools/NAME does, from any folder: the program on the files of a folder, or of
@@ -105,10 +117,10 @@ run_program() {
   choose_runner || return 1
   (
     cd "$top" || exit 1
-    [ -e "$PROGRAMS/$name" ] || say "proving and building program $name; the first time this takes some minutes"
+    [ -e "$(program "$name")" ] || say "proving and building program $name; the first time this takes some minutes"
     build_program "$name"
   ) || return 1
-  cd "$folder" && exec "${RUN[@]}" "$top/$PROGRAMS/$name"
+  cd "$folder" && exec "${RUN[@]}" "$top/$(program "$name")"
 }
 
 # cargo_release PACKAGE WORD..: cargo on a package of tests/, for release, its files under target/.
@@ -135,7 +147,7 @@ build_plain() {
   quietly target/tests/plain.log cargo_release plain build
 }
 
-# What several scripts need, built side by side: the library keeps one processor busy for a minute, cargo has another. What
+# What several scripts need, built side by side: the library keeps one processor busy for minutes, cargo has another. What
 # fails here is built again, and judged, where it is needed. No rt runs beside another: they write the same files.
 prepare() {
   { trap - INT && build_library; } &
