@@ -3,8 +3,8 @@
 #![tactic(auto)]
 
 use eeprom::{Eeprom, EepromCycle};
-use libc::STDOUT_FILENO;
 use record::{EepromEvent, LineEvent, Lines, Skeleton};
+use std::io;
 
 #[derive(Drop)]
 struct Bench {
@@ -12,50 +12,43 @@ struct Bench {
     lines: Lines,
 }
 
-fn print(text: &[u8]) {
-    io::write_all(STDOUT_FILENO, text);
-}
-
 // A new chip, and the name of its trace.
-fn begin(name: &[u8]) -> Bench {
-    print(name);
-    Bench {
+fn begin<R: Print>(rt: &R, name: &str) -> io::Result<Bench> {
+    print!(rt; "{name}")?;
+    Ok(Bench {
         chip: Eeprom::start(),
         lines: record::lines_at_start(),
-    }
+    })
 }
 
-fn done() {
-    print(b"\n");
+fn done<R: Print>(rt: &R) -> io::Result<()> {
+    println!(rt;)
 }
 
-fn show(reply: Skeleton) {
+fn show<R: Print>(rt: &R, reply: Skeleton) -> io::Result<()> {
     match reply {
-        Skeleton::Silent => print(b" -"),
-        Skeleton::Given(_) => print(b" byte"),
-        Skeleton::Fetch(p) => {
-            print(b" ");
-            io::print_hex(STDOUT_FILENO, p as u64, 4);
-        }
-        Skeleton::Ack => print(b" ack"),
-        Skeleton::NoAck => print(b" no"),
-        Skeleton::Starts => print(b" starts"),
-        Skeleton::Ends => print(b" ends"),
-        Skeleton::NoCycle => print(b" idle"),
+        Skeleton::Silent => print!(rt; " -"),
+        Skeleton::Given(_) => print!(rt; " byte"),
+        Skeleton::Fetch(p) => print!(rt; " {p:04x}"),
+        Skeleton::Ack => print!(rt; " ack"),
+        Skeleton::NoAck => print!(rt; " no"),
+        Skeleton::Starts => print!(rt; " starts"),
+        Skeleton::Ends => print!(rt; " ends"),
+        Skeleton::NoCycle => print!(rt; " idle"),
     }
 }
 
-fn bus(t: Bench, e: EepromEvent) -> Bench {
+fn bus<R: Print>(rt: &R, t: Bench, e: EepromEvent) -> io::Result<Bench> {
     let chip = t.chip;
     let lines = t.lines;
     let s = chip.step(e, lines, 5);
     let next = s.chip;
     let reply = s.reply;
-    show(reply);
-    Bench {
+    show(rt, reply)?;
+    Ok(Bench {
         chip: next,
         lines: lines,
-    }
+    })
 }
 
 fn line(t: Bench, e: LineEvent) -> Bench {
@@ -67,58 +60,53 @@ fn line(t: Bench, e: LineEvent) -> Bench {
     }
 }
 
-fn sta(t: Bench) -> Bench {
-    bus(t, EepromEvent::Start)
+fn sta<R: Print>(rt: &R, t: Bench) -> io::Result<Bench> {
+    bus(rt, t, EepromEvent::Start)
 }
 
-fn sto(t: Bench) -> Bench {
-    bus(t, EepromEvent::Stop)
+fn sto<R: Print>(rt: &R, t: Bench) -> io::Result<Bench> {
+    bus(rt, t, EepromEvent::Stop)
 }
 
-fn end(t: Bench) -> Bench {
-    bus(t, EepromEvent::End)
+fn end<R: Print>(rt: &R, t: Bench) -> io::Result<Bench> {
+    bus(rt, t, EepromEvent::End)
 }
 
 // The last byte of a read: its acknowledge bit is 1.
-fn last(t: Bench) -> Bench {
-    bus(t, EepromEvent::Byte(0, true))
+fn last<R: Print>(rt: &R, t: Bench) -> io::Result<Bench> {
+    bus(rt, t, EepromEvent::Byte(0, true))
 }
 
-fn send(t: Bench, bytes: &[u8]) -> Bench {
+fn send<R: Print>(rt: &R, t: Bench, bytes: &[u8]) -> io::Result<Bench> {
     let mut now = t;
     let mut i = 0;
     while i < bytes.len() {
-        now = bus(now, EepromEvent::Byte(bytes[i], false));
+        now = bus(rt, now, EepromEvent::Byte(bytes[i], false))?;
         i += 1;
     }
-    now
+    Ok(now)
 }
 
-fn show_byte(b: u8) {
-    print(b" ");
-    io::print_decimal(STDOUT_FILENO, b as u64);
+fn show_byte<R: Print>(rt: &R, b: u8) -> io::Result<()> {
+    print!(rt; " {b}")
 }
 
 // The places of the cycle, and some bytes of its page.
-fn show_cycle(t: Bench) {
+fn show_cycle<R: Print>(rt: &R, t: Bench) -> io::Result<()> {
     let chip = t.chip;
     let cycle = chip.cycle;
     let page = chip.page;
     match cycle {
-        EepromCycle::None => print(b" none"),
+        EepromCycle::None => print!(rt; " none")?,
         EepromCycle::Write(sent) => {
-            print(b" page ");
-            io::print_decimal(STDOUT_FILENO, sent.page as u64);
-            print(b" first ");
-            io::print_decimal(STDOUT_FILENO, sent.first as u64);
-            print(b" count ");
-            io::print_decimal(STDOUT_FILENO, sent.count as u64);
+            let (number, first, count) = (sent.page, sent.first, sent.count);
+            print!(rt; " page {number} first {first} count {count}")?
         }
     }
-    print(b" at 3, 4, 62:");
-    show_byte(page[3]);
-    show_byte(page[4]);
-    show_byte(page[62]);
+    print!(rt; " at 3, 4, 62:")?;
+    show_byte(rt, page[3])?;
+    show_byte(rt, page[4])?;
+    show_byte(rt, page[62])
 }
 
 // One data byte at 0010, as far as its cycle.
@@ -141,7 +129,7 @@ fn reading() {
     let t = send(sta(begin(b"random read")), b"\xaa\x12\x34");
     let u = sto(last(send(sta(t), b"\xab\x00")));
     done();
-    print(b"current address");
+    print!(rt; "current address");
     sto(send(last(send(sta(u), b"\xab")), b"\x00"));
     done();
     let v = send(sta(begin(b"over the end")), b"\xaa\xff\xfe");

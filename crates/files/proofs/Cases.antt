@@ -5,6 +5,7 @@ use mathlib.Core.Path.{◌≡◌, sym, subst}
 use mathlib.Core.Bool.{Bool, true, false}
 use mathlib.Core.List.{List}
 use lib.ListN.{length}
+use Rattle.std.specs.declared.io.Error.{Error}
 use Rattle.law.specs.Choice.{true_not_false}
 use Rattle.files.specs.declared.Chunk.{Chunk}
 use Rattle.files.specs.declared.File.{File}
@@ -17,7 +18,7 @@ moved {room} p e = subst (λ (r : Chunk). Moves room r) e p
 same_bytes : {m n : ℕ} → Taken.Bytes m ≡ Taken.Bytes n → m ≡ n
 same_bytes e = cc
 
-not_bytes : {n : ℕ} → Taken.Unreadable ≡ Taken.Bytes n → ⊥
+not_bytes : {n : ℕ} {e : Error} → Taken.Unreadable e ≡ Taken.Bytes n → ⊥
 not_bytes e = let z : ◌≡◌ {A = ℕ} 0 1 = cc in omega arith
 
 same_read : {s t : Bool} {m n : ℕ} → File.Read s m ≡ File.Read t n → (s ≡ t) × (m ≡ n)
@@ -30,8 +31,8 @@ not_read e = let z : ◌≡◌ {A = ℕ} 0 1 = cc in omega arith
 pub within : (new : List ℕ) (m : ℕ) → m ≤ length new → Within new (Taken.Bytes m)
 within new m h = record { within = λ n e. subst (λ (k : ℕ). k ≤ length new) (same_bytes e) h }
 
-pub without : (new : List ℕ) → Within new Taken.Unreadable
-without new = record { within = λ n e. absurd (not_bytes e) }
+pub without : (new : List ℕ) (e : Error) → Within new (Taken.Unreadable e)
+without new e = record { within = λ n h. absurd (not_bytes h) }
 
 -- ---- a file that is there, none, and one that can't be read
 pub loads : (new : List ℕ) (m : ℕ) → m ≤ length new → Loads new (File.Read true m)

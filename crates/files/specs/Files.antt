@@ -8,7 +8,7 @@ use Rattle.files.specs.declared.Taken.{Taken}
 abbrev pub Moves : ℕ → Chunk → Type 0
 Moves room (Chunk.Bytes n) = (0 < n) × (n ≤ room)
 Moves room Chunk.End = Unit {0}
-Moves room Chunk.Failed = Unit {0}
+Moves room (Chunk.Failed e) = Unit {0}
 
 -- the bytes taken lie within the buffer
 pub record Within (new : List ℕ) (r : Taken) : Type 0 where

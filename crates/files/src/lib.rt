@@ -4,19 +4,23 @@
 ghost use Rattle.std.specs.Prelude.{length};
 ghost use Rattle.files.specs.Files.{Moves, Within, Loads};
 
+use std::io::{ErrorKind, Read};
+use std::rt::Files;
+use std::{fs, io};
+
 // One read of what is left of a file.
 #[derive(Drop)]
 pub enum Chunk {
     Bytes(usize),
     End,
-    Failed,
+    Failed(io::Error),
 }
 
 // How many bytes of a file there are.
 #[derive(Drop)]
 pub enum Taken {
     Bytes(usize),
-    Unreadable,
+    Unreadable(io::Error),
 }
 
 // What became of a file: whether it is there, and how many bytes were read. One that can't be read was reported on standard error.
@@ -26,58 +30,61 @@ pub enum File {
     Unreadable,
 }
 
-fn read_some(fd: i32, buf: &mut [u8]) -> Chunk
+fn read_some<R: Read>(file: &mut R, buf: &mut [u8]) -> Chunk
     ensures { Moves (length buf.old) result }
 {
-    let got = libc::read(fd, buf);
-    if got < 0 {
-        return Chunk::Failed;
+    match file.read(buf) {
+        Ok(0) => Chunk::End,
+        Ok(n) => Chunk::Bytes(n),
+        Err(e) => Chunk::Failed(e),
     }
-    let n = io::count(got, buf);
-    if n == 0 {
-        return Chunk::End;
-    }
-    Chunk::Bytes(n)
 }
 
 // Reads until the buffer is full, the file ends or a read fails.
-fn read_all(fd: i32, buf: &mut [u8]) -> Taken
+fn read_all<R: Read>(file: &mut R, buf: &mut [u8]) -> Taken
     ensures { Within buf.new result }
 {
     let mut n = 0;
     while n < buf.len() {
-        match read_some(fd, &mut buf[n..]) {
+        match read_some(file, &mut buf[n..]) {
             Chunk::Bytes(k) => {
                 n += k;
             }
             Chunk::End => {
                 return Taken::Bytes(n);
             }
-            Chunk::Failed => {
-                return Taken::Unreadable;
+            Chunk::Failed(e) => {
+                return Taken::Unreadable(e);
             }
         }
     }
     Taken::Bytes(n)
 }
 
+// A line on standard error: what failed, and why. Where this fails nobody is left to be told.
+pub fn report<R: Eprint>(rt: &R, what: &str, e: io::Error) {
+    let _ = eprintln!(rt; "{what}: {e}");
+}
+
 // The bytes of a file, as far as the buffer goes; none where there is no such file. Any other error makes it unreadable.
-pub fn load(path: &[u8], buf: &mut [u8]) -> File
+pub fn load<R: Files + Eprint>(rt: &R, path: &str, buf: &mut [u8]) -> File
     ensures { Loads buf.new result }
 {
-    let fd = os::open_read(path);
-    if fd < 0 {
-        if os::errno() == libc::ENOENT {
-            return File::Read(false, 0);
+    let mut file = match fs::open(rt, path) {
+        Ok(file) => file,
+        Err(e) => {
+            if e.kind() == ErrorKind::NotFound {
+                return File::Read(false, 0);
+            }
+            report(rt, path, e);
+            return File::Unreadable;
         }
-        os::fail(path);
-        return File::Unreadable;
-    }
-    let Taken::Bytes(n) = read_all(fd, buf) else {
-        os::fail(path);
-        libc::close(fd);
-        return File::Unreadable;
     };
-    libc::close(fd);
-    File::Read(true, n)
+    match read_all(&mut file, buf) {
+        Taken::Bytes(n) => File::Read(true, n),
+        Taken::Unreadable(e) => {
+            report(rt, path, e);
+            File::Unreadable
+        }
+    }
 }

@@ -5,29 +5,35 @@
 ghost use Rattle.std.specs.Prelude.{◌<◌, ◌≤◌};
 
 use record::Chip;
+use std::io;
 
-fn put_byte(b: u8) {
-    io::write_all(1, b" ");
-    io::print_hex(1, b as u64, 2);
+fn put_byte<R: Print>(rt: &R, b: u8) -> io::Result<()> {
+    print!(rt; " {b:02x}")
 }
 
 // A part of an image.
-fn print(part: &[u8]) {
+fn print<R: Print>(rt: &R, part: &[u8]) -> io::Result<()> {
     let n = part.len();
-    io::print_decimal(1, n as u64);
+    print!(rt; "{n}")?;
     if 4 <= n {
-        put_byte(part[0]);
-        put_byte(part[1]);
-        put_byte(part[n - 2]);
-        put_byte(part[n - 1]);
+        put_byte(rt, part[0])?;
+        put_byte(rt, part[1])?;
+        put_byte(rt, part[n - 2])?;
+        put_byte(rt, part[n - 1])?;
     }
-    io::write_all(1, b"\n");
+    println!(rt;)
 }
 
-fn show<'a>(name: &[u8], flash: &'a [u8], eeprom: &'a [u8], chip: Chip, number: usize) {
-    io::write_all(1, name);
-    io::write_all(1, b"\t");
-    print(image::view::view(flash, eeprom, chip, number));
+fn show<R: Print>(
+    rt: &R,
+    name: &str,
+    flash: &[u8],
+    eeprom: &[u8],
+    chip: Chip,
+    number: usize,
+) -> io::Result<()> {
+    print!(rt; "{name}\t")?;
+    print(rt, image::view::view(flash, eeprom, chip, number))
 }
 
 // What is laid at a place of an image: its page's number, the low byte at an even place, at an odd one the high byte with the image's mark.
@@ -51,38 +57,38 @@ fn lay(bytes: &mut [u8], page: usize, mark: usize)
     }
 }
 
-fn flash_pages<'a>(flash: &'a [u8], eeprom: &'a [u8]) {
-    show(b"flash 0", flash, eeprom, Chip::Flash, 0);
-    show(b"flash 1", flash, eeprom, Chip::Flash, 1);
-    show(b"flash 127", flash, eeprom, Chip::Flash, 127);
-    show(b"flash 128", flash, eeprom, Chip::Flash, 128);
+fn flash_pages<R: Print>(rt: &R, flash: &[u8], eeprom: &[u8]) -> io::Result<()> {
+    show(rt, "flash 0", flash, eeprom, Chip::Flash, 0)?;
+    show(rt, "flash 1", flash, eeprom, Chip::Flash, 1)?;
+    show(rt, "flash 127", flash, eeprom, Chip::Flash, 127)?;
+    show(rt, "flash 128", flash, eeprom, Chip::Flash, 128)
 }
 
-fn eeprom_pages<'a>(flash: &'a [u8], eeprom: &'a [u8]) {
-    show(b"eeprom 0", flash, eeprom, Chip::Eeprom, 0);
-    show(b"eeprom 1", flash, eeprom, Chip::Eeprom, 1);
-    show(b"eeprom 256", flash, eeprom, Chip::Eeprom, 256);
-    show(b"eeprom 511", flash, eeprom, Chip::Eeprom, 511);
-    show(b"eeprom 512", flash, eeprom, Chip::Eeprom, 512);
+fn eeprom_pages<R: Print>(rt: &R, flash: &[u8], eeprom: &[u8]) -> io::Result<()> {
+    show(rt, "eeprom 0", flash, eeprom, Chip::Eeprom, 0)?;
+    show(rt, "eeprom 1", flash, eeprom, Chip::Eeprom, 1)?;
+    show(rt, "eeprom 256", flash, eeprom, Chip::Eeprom, 256)?;
+    show(rt, "eeprom 511", flash, eeprom, Chip::Eeprom, 511)?;
+    show(rt, "eeprom 512", flash, eeprom, Chip::Eeprom, 512)
 }
 
 // One image is not as long as is kept: no page of either is shown.
-fn wrong_length<'a>(flash: &'a [u8], eeprom: &'a [u8]) {
-    show(b"flash 0, wrong length", flash, eeprom, Chip::Flash, 0);
-    show(b"eeprom 0, wrong length", flash, eeprom, Chip::Eeprom, 0);
+fn wrong_length<R: Print>(rt: &R, flash: &[u8], eeprom: &[u8]) -> io::Result<()> {
+    show(rt, "flash 0, wrong length", flash, eeprom, Chip::Flash, 0)?;
+    show(rt, "eeprom 0, wrong length", flash, eeprom, Chip::Eeprom, 0)
 }
 
-fn main() {
+fn main(rt: HostRuntime) -> io::Result<()> {
     let mut flash = [0u8; image::FLASH_KEPT];
     let mut eeprom = [0u8; image::EEPROM_KEPT];
     lay(&mut flash, 256, 240);
     lay(&mut eeprom, 64, 224);
-    flash_pages(&flash, &eeprom);
-    eeprom_pages(&flash, &eeprom);
+    flash_pages(&rt, &flash, &eeprom)?;
+    eeprom_pages(&rt, &flash, &eeprom)?;
     let short = [0u8; image::FLASH_KEPT - 1];
     let long = [0u8; image::FLASH_KEPT + 1];
-    wrong_length(&short, &eeprom);
-    wrong_length(&flash, &short);
-    wrong_length(&long, &eeprom);
-    wrong_length(&flash, &long);
+    wrong_length(&rt, &short, &eeprom)?;
+    wrong_length(&rt, &flash, &short)?;
+    wrong_length(&rt, &long, &eeprom)?;
+    wrong_length(&rt, &flash, &long)
 }
