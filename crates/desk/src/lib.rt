@@ -1,4 +1,4 @@
-// The replay on the caller's own buffers: what the desk's viewer, a C program, calls. And the plan, the merge and the second engine, for the repair shop's programs: all that is exported stands here.
+// The replay on the caller's own buffers, which the desk's viewer, a C program, calls by the crate desk_c. And the plan, the merge and the second engine, for the repair shop's programs: all that is exported stands here.
 // A stamp is judged before a byte of it is played, so nothing is ever undone and no image is copied.
 #![tactic(auto)]
 
@@ -254,8 +254,7 @@ fn replay(
 }
 
 // The call: document 01's table of answers 0 to 8, on the caller's own buffers; with the pages' times, and a 3 with its field (document 02, requests 1/12 and 2/12).
-#[unsafe(no_mangle)]
-pub extern "C" fn hazelcrook_replay(
+pub fn hazelcrook_replay(
     text: &[u8],
     flash: &mut [u8],
     flash_mask: &mut [u8],
@@ -303,8 +302,7 @@ fn chip_of(chip: u32) -> Chip
 }
 
 // Where a page stands in its image, by the images' lengths: the page view for a C caller.
-#[unsafe(no_mangle)]
-pub extern "C" fn hazelcrook_page_place(
+pub fn hazelcrook_page_place(
     flash: usize,
     eeprom: usize,
     chip: u32,
@@ -316,8 +314,7 @@ pub extern "C" fn hazelcrook_page_place(
 }
 
 // How long the page is; 0 is refusal 11.
-#[unsafe(no_mangle)]
-pub extern "C" fn hazelcrook_page_length(
+pub fn hazelcrook_page_length(
     flash: usize,
     eeprom: usize,
     chip: u32,
@@ -329,8 +326,7 @@ pub extern "C" fn hazelcrook_page_length(
 }
 
 // The plan that refills the flash in the fewest write cycles: answers 0, 14, 15 and 16 (document 02, request 6/12).
-#[unsafe(no_mangle)]
-pub extern "C" fn hazelcrook_plan(
+pub fn hazelcrook_plan(
     present: &[u8],
     wanted: &[u8],
     status: u8,
@@ -343,8 +339,7 @@ pub extern "C" fn hazelcrook_plan(
 }
 
 // One trace of a capture and a logger's trace: answers 0 to 5, 10, 12 and 13 (document 02, request 4/12).
-#[unsafe(no_mangle)]
-pub extern "C" fn hazelcrook_merge(
+pub fn hazelcrook_merge(
     levels: &[u8],
     trace: &[u8],
     output: &mut [u8],
@@ -356,8 +351,7 @@ pub extern "C" fn hazelcrook_merge(
 }
 
 // The second engine, which plays the levels straight through: answers 0 to 5, 12 and 13 (document 02, request 4/12).
-#[unsafe(no_mangle)]
-pub extern "C" fn hazelcrook_play_levels(
+pub fn hazelcrook_play_levels(
     levels: &[u8],
     trace: &[u8],
     flash: &mut [u8],
