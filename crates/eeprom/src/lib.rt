@@ -15,7 +15,7 @@ mod parts; // frames, cycles and counters by themselves
 mod numbers; // the numbers that they are compared by
 
 // A frame, from `sta` to the next `sta` or `sto`.
-#[derive(Drop)]
+#[derive(Clone, Copy)]
 pub enum EepromFrame {
     Idle,
     Void,
@@ -32,20 +32,20 @@ pub enum EepromFrame {
 }
 
 // The places of a write: their page, the first one in it, and how many; all 64 are counted from 0.
-#[derive(Drop)]
+#[derive(Clone, Copy)]
 pub struct Sent {
     pub page: u32,
     pub first: u32,
     pub count: u32,
 }
 
-#[derive(Drop)]
+#[derive(Clone, Copy)]
 pub enum EepromCycle {
     None,
     Write(Sent),
 }
 
-#[derive(Drop)]
+#[derive(Clone, Copy)]
 pub enum EepromCounter {
     Lost,
     At(u32),
@@ -54,7 +54,7 @@ pub enum EepromCounter {
 pub type EepromPage = [u8; page::EEPROM_PAGE as usize];
 
 // The page holds the bytes of a write that is being sent or whose cycle runs, and 0 elsewhere. So two chips in one state are one value.
-#[derive(Drop)]
+#[derive(Clone, Copy)]
 pub struct Eeprom {
     pub frame: EepromFrame,
     pub cycle: EepromCycle,
