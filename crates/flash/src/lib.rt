@@ -15,7 +15,7 @@ mod equal;
 mod frame;
 
 // The nine instructions.
-#[derive(Drop)]
+#[derive(Clone, Copy)]
 pub enum Op {
     WriteEnable,
     WriteDisable,
@@ -29,14 +29,14 @@ pub enum Op {
 }
 
 // What an op-code byte says.
-#[derive(Drop)]
+#[derive(Clone, Copy)]
 pub(crate) enum Decoded {
     Is(Op),
     Unknown,
 }
 
 // Whether the lock was on at any time since `sel`. A fact only in a frame whose `sel` found WPEN 1 and no cycle.
-#[derive(Drop)]
+#[derive(Clone, Copy)]
 pub enum LockFact {
     Absent,
     Free,
@@ -44,13 +44,13 @@ pub enum LockFact {
 }
 
 // The bytes of an instruction so far: how many, where 5 stands for five or more, and the place that those after the op-code name, then the one that comes next.
-#[derive(Drop)]
+#[derive(Clone, Copy)]
 pub struct Sent {
     pub count: u32,
     pub place: u32,
 }
 
-#[derive(Drop)]
+#[derive(Clone, Copy)]
 pub enum FlashFrame {
     Idle,
     Void,
@@ -59,7 +59,7 @@ pub enum FlashFrame {
 }
 
 // The cycle that runs, with the page number of a PROGRAM (0 to 511), the sector of an erase (1 to 4), the bits of a WRSR.
-#[derive(Drop)]
+#[derive(Clone, Copy)]
 pub enum FlashCycle {
     None,
     Program(u32),
@@ -69,7 +69,7 @@ pub enum FlashCycle {
 }
 
 // A lost status stays lost; nothing is kept beside it.
-#[derive(Drop)]
+#[derive(Clone, Copy)]
 pub enum FlashStatus {
     Lost,
     Known(u8),
@@ -78,7 +78,7 @@ pub enum FlashStatus {
 pub type FlashPage = [u8; page::FLASH_PAGE as usize];
 
 // The page holds the bytes of the PROGRAM that is sent or written, each at its place, and ff where none was sent.
-#[derive(Drop)]
+#[derive(Clone, Copy)]
 pub struct Flash {
     pub frame: FlashFrame,
     pub cycle: FlashCycle,
@@ -86,14 +86,14 @@ pub struct Flash {
     pub page: FlashPage,
 }
 
-#[derive(Drop)]
+#[derive(Clone, Copy)]
 pub struct FlashStep {
     pub chip: Flash,
     pub reply: Skeleton,
 }
 
 // What a frame's instruction does at `des`.
-#[derive(Drop)]
+#[derive(Clone, Copy)]
 pub(crate) enum Effect {
     Nothing,
     Status(u8),
