@@ -38,53 +38,55 @@ fn show<R: Print>(rt: &R, reply: Skeleton) -> io::Result<()> {
     }
 }
 
-fn bus<R: Print>(rt: &R, t: Bench, e: EepromEvent) -> io::Result<Bench> {
-    let chip = t.chip;
-    let lines = t.lines;
-    let s = chip.step(e, lines, 5);
-    let next = s.chip;
-    let reply = s.reply;
-    show(rt, reply)?;
-    Ok(Bench {
-        chip: next,
-        lines: lines,
-    })
-}
-
-fn line(t: Bench, e: LineEvent) -> Bench {
-    let chip = t.chip;
-    let lines = t.lines;
-    Bench {
-        chip: chip.line(e, lines),
-        lines: record::lines_after(lines, e),
+impl Bench {
+    fn bus<R: Print>(self, rt: &R, e: EepromEvent) -> io::Result<Bench> {
+        let chip = self.chip;
+        let lines = self.lines;
+        let s = chip.step(e, lines, 5);
+        let next = s.chip;
+        let reply = s.reply;
+        show(rt, reply)?;
+        Ok(Bench {
+            chip: next,
+            lines: lines,
+        })
     }
-}
 
-fn sta<R: Print>(rt: &R, t: Bench) -> io::Result<Bench> {
-    bus(rt, t, EepromEvent::Start)
-}
-
-fn sto<R: Print>(rt: &R, t: Bench) -> io::Result<Bench> {
-    bus(rt, t, EepromEvent::Stop)
-}
-
-fn end<R: Print>(rt: &R, t: Bench) -> io::Result<Bench> {
-    bus(rt, t, EepromEvent::End)
-}
-
-// The last byte of a read: its acknowledge bit is 1.
-fn last<R: Print>(rt: &R, t: Bench) -> io::Result<Bench> {
-    bus(rt, t, EepromEvent::Byte(0, true))
-}
-
-fn send<R: Print>(rt: &R, t: Bench, bytes: &[u8]) -> io::Result<Bench> {
-    let mut now = t;
-    let mut i = 0;
-    while i < bytes.len() {
-        now = bus(rt, now, EepromEvent::Byte(bytes[i], false))?;
-        i += 1;
+    fn line(self, e: LineEvent) -> Bench {
+        let chip = self.chip;
+        let lines = self.lines;
+        Bench {
+            chip: chip.line(e, lines),
+            lines: record::lines_after(lines, e),
+        }
     }
-    Ok(now)
+
+    fn sta<R: Print>(self, rt: &R) -> io::Result<Bench> {
+        self.bus(rt, EepromEvent::Start)
+    }
+
+    fn sto<R: Print>(self, rt: &R) -> io::Result<Bench> {
+        self.bus(rt, EepromEvent::Stop)
+    }
+
+    fn end<R: Print>(self, rt: &R) -> io::Result<Bench> {
+        self.bus(rt, EepromEvent::End)
+    }
+
+    // The last byte of a read: its acknowledge bit is 1.
+    fn last<R: Print>(self, rt: &R) -> io::Result<Bench> {
+        self.bus(rt, EepromEvent::Byte(0, true))
+    }
+
+    fn send<R: Print>(self, rt: &R, bytes: &[u8]) -> io::Result<Bench> {
+        let mut now = self;
+        let mut i = 0;
+        while i < bytes.len() {
+            now = now.bus(rt, EepromEvent::Byte(bytes[i], false))?;
+            i += 1;
+        }
+        Ok(now)
+    }
 }
 
 fn show_byte<R: Print>(rt: &R, b: u8) -> io::Result<()> {
@@ -92,11 +94,9 @@ fn show_byte<R: Print>(rt: &R, b: u8) -> io::Result<()> {
 }
 
 // The places of the cycle, and some bytes of its page.
-fn show_cycle<R: Print>(rt: &R, t: Bench) -> io::Result<()> {
-    let chip = t.chip;
-    let cycle = chip.cycle;
-    let page = chip.page;
-    match cycle {
+fn show_cycle<R: Print>(rt: &R, t: &Bench) -> io::Result<()> {
+    let page = &t.chip.page;
+    match &t.chip.cycle {
         EepromCycle::None => print!(rt; " none")?,
         EepromCycle::Write(sent) => {
             let (number, first, count) = (sent.page, sent.first, sent.count);
@@ -110,109 +110,106 @@ fn show_cycle<R: Print>(rt: &R, t: Bench) -> io::Result<()> {
 }
 
 // One data byte at 0010, as far as its cycle.
-fn written(name: &[u8]) -> Bench {
-    sto(send(sta(begin(name)), b"\xaa\x00\x10\x77"))
+fn written<R: Print>(rt: &R, name: &str) -> io::Result<Bench> {
+    begin(rt, name)?.sta(rt)?.send(rt, b"\xaa\x00\x10\x77")?.sto(rt)
 }
 
 // No acknowledge in the cycle, nor after a `sta` in it though `end` came between; another address is silent all the same.
-fn polling() {
-    let t = sto(send(sta(written(b"polling")), b"\xaa"));
-    let u = sto(send(end(sta(t)), b"\xaa\x00"));
-    sto(send(sta(u), b"\xaa"));
-    done();
-    let v = sta(written(b"other in a cycle"));
-    send(end(v), b"\xac\xaa");
-    done();
+fn polling<R: Print>(rt: &R) -> io::Result<()> {
+    let t = written(rt, "polling")?.sta(rt)?.send(rt, b"\xaa")?.sto(rt)?;
+    let u = t.sta(rt)?.end(rt)?.send(rt, b"\xaa\x00")?.sto(rt)?;
+    u.sta(rt)?.send(rt, b"\xaa")?.sto(rt)?;
+    done(rt)?;
+    let v = written(rt, "other in a cycle")?.sta(rt)?;
+    v.end(rt)?.send(rt, b"\xac\xaa")?;
+    done(rt)
 }
 
-fn reading() {
-    let t = send(sta(begin(b"random read")), b"\xaa\x12\x34");
-    let u = sto(last(send(sta(t), b"\xab\x00")));
-    done();
-    print!(rt; "current address");
-    sto(send(last(send(sta(u), b"\xab")), b"\x00"));
-    done();
-    let v = send(sta(begin(b"over the end")), b"\xaa\xff\xfe");
-    sto(last(send(sta(v), b"\xab\x00\x00\x00")));
-    done();
-    let w = sto(last(send(sta(begin(b"lost counter")), b"\xab\x00")));
-    sto(send(sta(w), b"\xab\x00"));
-    done();
+fn reading<R: Print>(rt: &R) -> io::Result<()> {
+    let t = begin(rt, "random read")?.sta(rt)?.send(rt, b"\xaa\x12\x34")?;
+    let u = t.sta(rt)?.send(rt, b"\xab\x00")?.last(rt)?.sto(rt)?;
+    done(rt)?;
+    print!(rt; "current address")?;
+    u.sta(rt)?.send(rt, b"\xab")?.last(rt)?.send(rt, b"\x00")?.sto(rt)?;
+    done(rt)?;
+    let v = begin(rt, "over the end")?.sta(rt)?.send(rt, b"\xaa\xff\xfe")?;
+    v.sta(rt)?.send(rt, b"\xab\x00\x00\x00")?.last(rt)?.sto(rt)?;
+    done(rt)?;
+    let w = begin(rt, "lost counter")?.sta(rt)?.send(rt, b"\xab\x00")?.last(rt)?.sto(rt)?;
+    w.sta(rt)?.send(rt, b"\xab\x00")?.sto(rt)?;
+    done(rt)
 }
 
-fn addressing() {
-    let t = send(sta(begin(b"repeated start")), b"\xaa\x00\x05\x11\x22");
-    let u = end(sto(sta(t)));
-    sto(last(send(sta(u), b"\xab")));
-    done();
-    let v = sto(send(sta(begin(b"other address")), b"\xac\x00\x05\x11"));
-    sto(send(sta(v), b"\x2a\xaa"));
-    done();
+fn addressing<R: Print>(rt: &R) -> io::Result<()> {
+    let t = begin(rt, "repeated start")?.sta(rt)?.send(rt, b"\xaa\x00\x05\x11\x22")?;
+    let u = t.sta(rt)?.sto(rt)?.end(rt)?;
+    u.sta(rt)?.send(rt, b"\xab")?.last(rt)?.sto(rt)?;
+    done(rt)?;
+    let v = begin(rt, "other address")?.sta(rt)?.send(rt, b"\xac\x00\x05\x11")?.sto(rt)?;
+    v.sta(rt)?.send(rt, b"\x2a\xaa")?.sto(rt)?;
+    done(rt)
 }
 
 // 70 data bytes from 007e on: the last six replace the first six.
-fn more_than_64() {
-    let mut now = send(sta(begin(b"70 bytes")), b"\xaa\x00\x7e");
+fn more_than_64<R: Print>(rt: &R) -> io::Result<()> {
+    let mut now = begin(rt, "70 bytes")?.sta(rt)?.send(rt, b"\xaa\x00\x7e")?;
     let mut i: u8 = 0;
     while i < 70 {
-        now = bus(now, EepromEvent::Byte(i, false));
+        now = now.bus(rt, EepromEvent::Byte(i, false))?;
         i += 1;
     }
-    let t = sto(now);
-    show_cycle(t);
-    sto(last(send(sta(end(t)), b"\xab")));
-    done();
-    let u = sto(send(sta(begin(b"no data")), b"\xaa\x00\x10"));
-    end(u);
-    done();
+    let t = now.sto(rt)?;
+    show_cycle(rt, &t)?;
+    t.end(rt)?.sta(rt)?.send(rt, b"\xab")?.last(rt)?.sto(rt)?;
+    done(rt)?;
+    let u = begin(rt, "no data")?.sta(rt)?.send(rt, b"\xaa\x00\x10")?.sto(rt)?;
+    u.end(rt)?;
+    done(rt)
 }
 
 // The lock counts at `sto` alone; the counter has gone on all the same.
-fn locking() {
-    let t = send(sta(begin(b"lock at sto")), b"\xaa\x00\x05\x11");
-    let u = end(sto(line(t, LineEvent::LockOn)));
-    sto(last(send(sta(u), b"\xab")));
-    done();
-    let v = line(sta(begin(b"lock before sto")), LineEvent::LockOn);
-    let w = line(send(v, b"\xaa\x00\x05\x11"), LineEvent::LockOff);
-    end(line(sto(w), LineEvent::LockOn));
-    done();
+fn locking<R: Print>(rt: &R) -> io::Result<()> {
+    let t = begin(rt, "lock at sto")?.sta(rt)?.send(rt, b"\xaa\x00\x05\x11")?;
+    let u = t.line(LineEvent::LockOn).sto(rt)?.end(rt)?;
+    u.sta(rt)?.send(rt, b"\xab")?.last(rt)?.sto(rt)?;
+    done(rt)?;
+    let v = begin(rt, "lock before sto")?.sta(rt)?.line(LineEvent::LockOn);
+    let w = v.send(rt, b"\xaa\x00\x05\x11")?.line(LineEvent::LockOff);
+    w.sto(rt)?.line(LineEvent::LockOn).end(rt)?;
+    done(rt)
 }
 
-fn cutting() {
-    let t = send(sta(begin(b"cut")), b"\xaa\x00\x05\x11");
-    let u = end(sto(bus(t, EepromEvent::Cut)));
-    sto(last(send(sta(u), b"\xab")));
-    done();
+fn cutting<R: Print>(rt: &R) -> io::Result<()> {
+    let t = begin(rt, "cut")?.sta(rt)?.send(rt, b"\xaa\x00\x05\x11")?;
+    let u = t.bus(rt, EepromEvent::Cut)?.sto(rt)?.end(rt)?;
+    u.sta(rt)?.send(rt, b"\xab")?.last(rt)?.sto(rt)?;
+    done(rt)
 }
 
 // The supply goes off in a cycle, with an open frame, and before a frame opens; a repeated state does nothing.
-fn supply() {
-    let t = end(line(written(b"off in a cycle"), LineEvent::SupplyOff));
-    let u = line(line(t, LineEvent::SupplyOff), LineEvent::SupplyOn);
-    sto(send(sta(u), b"\xab\x00"));
-    done();
-    let v = line(
-        send(sta(begin(b"off in a frame")), b"\xaa\x00"),
-        LineEvent::SupplyOff,
-    );
-    let w = line(send(v, b"\x05"), LineEvent::SupplyOn);
-    sto(send(w, b"\x11"));
-    done();
-    let x = sta(line(begin(b"opened when off"), LineEvent::SupplyOff));
-    sto(send(line(x, LineEvent::SupplyOn), b"\xaa"));
-    done();
-    let y = end(line(written(b"on again"), LineEvent::SupplyOn));
-    sto(send(sta(y), b"\xab\x00"));
-    done();
+fn supply<R: Print>(rt: &R) -> io::Result<()> {
+    let t = written(rt, "off in a cycle")?.line(LineEvent::SupplyOff).end(rt)?;
+    let u = t.line(LineEvent::SupplyOff).line(LineEvent::SupplyOn);
+    u.sta(rt)?.send(rt, b"\xab\x00")?.sto(rt)?;
+    done(rt)?;
+    let v = begin(rt, "off in a frame")?.sta(rt)?.send(rt, b"\xaa\x00")?.line(LineEvent::SupplyOff);
+    let w = v.send(rt, b"\x05")?.line(LineEvent::SupplyOn);
+    w.send(rt, b"\x11")?.sto(rt)?;
+    done(rt)?;
+    let x = begin(rt, "opened when off")?.line(LineEvent::SupplyOff).sta(rt)?;
+    x.line(LineEvent::SupplyOn).send(rt, b"\xaa")?.sto(rt)?;
+    done(rt)?;
+    let y = written(rt, "on again")?.line(LineEvent::SupplyOn).end(rt)?;
+    y.sta(rt)?.send(rt, b"\xab\x00")?.sto(rt)?;
+    done(rt)
 }
 
-fn main() {
-    polling();
-    reading();
-    addressing();
-    more_than_64();
-    locking();
-    cutting();
-    supply();
+fn main(rt: HostRuntime) -> io::Result<()> {
+    polling(&rt)?;
+    reading(&rt)?;
+    addressing(&rt)?;
+    more_than_64(&rt)?;
+    locking(&rt)?;
+    cutting(&rt)?;
+    supply(&rt)
 }

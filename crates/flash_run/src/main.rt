@@ -5,6 +5,8 @@
 
 use flash::{Flash, FlashCycle, FlashFrame, FlashStatus, LockFact, Op};
 use record::{FlashEvent, LineEvent, Lines, Skeleton};
+use std::io;
+use std::io::Read;
 
 #[derive(Drop)]
 struct Bench {
@@ -14,119 +16,96 @@ struct Bench {
     typed: u8,
 }
 
-fn put(c: u8) {
-    io::write_all(1, &[c]);
+fn put<R: Print>(rt: &R, c: char) -> io::Result<()> {
+    print!(rt; "{c}")
 }
 
-fn put_hex(n: u32, width: usize) {
-    io::print_hex(1, n as u64, width);
+fn put_byte<R: Print>(rt: &R, b: u8) -> io::Result<()> {
+    print!(rt; "{b:02x}")
 }
 
-fn put_byte(b: u8) {
-    put_hex(b as u32, 2);
-}
-
-fn put_reply(k: Skeleton) {
+fn put_reply<R: Print>(rt: &R, k: Skeleton) -> io::Result<()> {
     match k {
-        Skeleton::Silent => put(b'.'),
-        Skeleton::Given(b) => {
-            put(b'g');
-            put_byte(b);
-        }
-        Skeleton::Fetch(p) => {
-            put(b'r');
-            put_hex(p, 4);
-        }
-        Skeleton::Ack => put(b'?'),
-        Skeleton::NoAck => put(b'?'),
-        Skeleton::Starts => put(b'S'),
-        Skeleton::Ends => put(b'E'),
-        Skeleton::NoCycle => put(b'7'),
+        Skeleton::Silent => put(rt, '.'),
+        Skeleton::Given(b) => print!(rt; "g{b:02x}"),
+        Skeleton::Fetch(p) => print!(rt; "r{p:04x}"),
+        Skeleton::Ack => put(rt, '?'),
+        Skeleton::NoAck => put(rt, '?'),
+        Skeleton::Starts => put(rt, 'S'),
+        Skeleton::Ends => put(rt, 'E'),
+        Skeleton::NoCycle => put(rt, '7'),
     }
 }
 
-fn put_fact(fact: LockFact) {
+fn put_fact<R: Print>(rt: &R, fact: LockFact) -> io::Result<()> {
     match fact {
-        LockFact::Absent => put(b'-'),
-        LockFact::Free => put(b'f'),
-        LockFact::Locked => put(b'l'),
+        LockFact::Absent => put(rt, '-'),
+        LockFact::Free => put(rt, 'f'),
+        LockFact::Locked => put(rt, 'l'),
     }
 }
 
-fn put_op(op: Op) {
+fn put_op<R: Print>(rt: &R, op: Op) -> io::Result<()> {
     match op {
-        Op::WriteEnable => put(b'e'),
-        Op::WriteDisable => put(b'd'),
-        Op::ReadStatus => put(b's'),
-        Op::WriteStatus => put(b'w'),
-        Op::Read => put(b'r'),
-        Op::Program => put(b'p'),
-        Op::SectorErase => put(b'x'),
-        Op::ChipErase => put(b'c'),
-        Op::Identify => put(b'i'),
+        Op::WriteEnable => put(rt, 'e'),
+        Op::WriteDisable => put(rt, 'd'),
+        Op::ReadStatus => put(rt, 's'),
+        Op::WriteStatus => put(rt, 'w'),
+        Op::Read => put(rt, 'r'),
+        Op::Program => put(rt, 'p'),
+        Op::SectorErase => put(rt, 'x'),
+        Op::ChipErase => put(rt, 'c'),
+        Op::Identify => put(rt, 'i'),
     }
 }
 
-fn put_frame(frame: FlashFrame) {
-    put(b' ');
+fn put_frame<R: Print>(rt: &R, frame: FlashFrame) -> io::Result<()> {
+    put(rt, ' ')?;
     match frame {
-        FlashFrame::Idle => put(b'I'),
-        FlashFrame::Void => put(b'V'),
+        FlashFrame::Idle => put(rt, 'I'),
+        FlashFrame::Void => put(rt, 'V'),
         FlashFrame::Selected(fact) => {
-            put(b'O');
-            put_fact(fact);
+            put(rt, 'O')?;
+            put_fact(rt, fact)
         }
         FlashFrame::Command(op, sent, fact) => {
-            put_op(op);
-            put_hex(sent.count, 1);
-            put_fact(fact);
+            let count = sent.count;
+            put_op(rt, op)?;
+            print!(rt; "{count:x}")?;
+            put_fact(rt, fact)
         }
     }
 }
 
-fn put_cycle(cycle: FlashCycle) {
-    put(b' ');
+fn put_cycle<R: Print>(rt: &R, cycle: FlashCycle) -> io::Result<()> {
     match cycle {
-        FlashCycle::None => put(b'-'),
-        FlashCycle::Program(n) => {
-            put(b'p');
-            put_hex(n, 3);
-        }
-        FlashCycle::SectorErase(n) => {
-            put(b'x');
-            put_hex(n as u32, 1);
-        }
-        FlashCycle::ChipErase => put(b'c'),
-        FlashCycle::WriteStatus(b) => {
-            put(b'w');
-            put_byte(b);
-        }
+        FlashCycle::None => print!(rt; " -"),
+        FlashCycle::Program(n) => print!(rt; " p{n:03x}"),
+        FlashCycle::SectorErase(n) => print!(rt; " x{n:x}"),
+        FlashCycle::ChipErase => print!(rt; " c"),
+        FlashCycle::WriteStatus(b) => print!(rt; " w{b:02x}"),
     }
 }
 
-fn put_status(status: FlashStatus) {
-    put(b' ');
+fn put_status<R: Print>(rt: &R, status: FlashStatus) -> io::Result<()> {
     match status {
-        FlashStatus::Lost => put(b'-'),
-        FlashStatus::Known(s) => put_byte(s),
+        FlashStatus::Lost => print!(rt; " -"),
+        FlashStatus::Known(s) => print!(rt; " {s:02x}"),
     }
 }
 
 // The state; of the page, its first and its last two places.
-fn put_chip(chip: Flash) {
-    let frame = chip.frame;
-    let cycle = chip.cycle;
-    let status = chip.status;
+fn put_chip<R: Print>(rt: &R, chip: Flash) -> io::Result<()> {
     let page = chip.page;
-    put_frame(frame);
-    put_cycle(cycle);
-    put_status(status);
-    put(b' ');
-    put_byte(page[0]);
-    put_byte(page[1]);
-    put_byte(page[254]);
-    put_byte(page[255]);
-    put(b'\n');
+    put_frame(rt, chip.frame)?;
+    put_cycle(rt, chip.cycle)?;
+    put_status(rt, chip.status)?;
+    put(rt, ' ')?;
+    put_byte(rt, page[0])?;
+    put_byte(rt, page[1])?;
+    put_byte(rt, page[254])?;
+    put_byte(rt, page[255])?;
+    put(rt, '\n')
 }
 
 fn started(status: u8, watched: u8) -> Bench {
@@ -139,19 +118,19 @@ fn started(status: u8, watched: u8) -> Bench {
 }
 
 impl Bench {
-    fn bus(self, e: FlashEvent) -> Bench {
+    fn bus<R: Print>(self, rt: &R, e: FlashEvent) -> io::Result<Bench> {
         let chip = self.chip;
         let lines = self.lines;
         let step = chip.step(e, lines, self.watched);
         let next = step.chip;
         let reply = step.reply;
-        put_reply(reply);
-        Bench {
+        put_reply(rt, reply)?;
+        Ok(Bench {
             chip: next,
             lines: lines,
             watched: self.watched,
             typed: self.typed,
-        }
+        })
     }
 
     fn line(self, e: LineEvent) -> Bench {
@@ -176,53 +155,51 @@ impl Bench {
         }
     }
 
-    fn closed(self) -> Bench {
-        let chip = self.chip;
-        put_chip(chip);
-        self
+    fn closed<R: Print>(self, rt: &R) -> io::Result<Bench> {
+        put_chip(rt, self.chip)?;
+        Ok(self)
     }
 
     // One byte of a script.
-    fn played(self, c: u8) -> Bench {
+    fn played<R: Print>(self, rt: &R, c: u8) -> io::Result<Bench> {
         match c {
-            b'0'..=b'9' => self.typing(c % 16),
-            b'a'..=b'f' => self.typing(c % 16 + 9),
-            b'B' => started(self.typed, self.watched),
+            b'0'..=b'9' => Ok(self.typing(c % 16)),
+            b'a'..=b'f' => Ok(self.typing(c % 16 + 9)),
+            b'B' => Ok(started(self.typed, self.watched)),
             b'W' => {
                 let chip = self.chip;
                 let lines = self.lines;
-                Bench {
+                Ok(Bench {
                     chip: chip,
                     lines: lines,
                     watched: self.typed,
                     typed: 0,
-                }
+                })
             }
-            b'S' => self.bus(FlashEvent::Select),
-            b'X' => self.bus(FlashEvent::Byte(self.typed, 0)),
-            b'C' => self.bus(FlashEvent::Cut),
-            b'D' => self.bus(FlashEvent::Deselect),
-            b'E' => self.bus(FlashEvent::End),
-            b'N' => self.line(LineEvent::SupplyOn),
-            b'O' => self.line(LineEvent::SupplyOff),
-            b'L' => self.line(LineEvent::LockOn),
-            b'F' => self.line(LineEvent::LockOff),
-            _ => self.closed(),
+            b'S' => self.bus(rt, FlashEvent::Select),
+            b'X' => self.bus(rt, FlashEvent::Byte(self.typed, 0)),
+            b'C' => self.bus(rt, FlashEvent::Cut),
+            b'D' => self.bus(rt, FlashEvent::Deselect),
+            b'E' => self.bus(rt, FlashEvent::End),
+            b'N' => Ok(self.line(LineEvent::SupplyOn)),
+            b'O' => Ok(self.line(LineEvent::SupplyOff)),
+            b'L' => Ok(self.line(LineEvent::LockOn)),
+            b'F' => Ok(self.line(LineEvent::LockOff)),
+            _ => self.closed(rt),
         }
     }
 }
 
-fn play(script: &[u8]) {
+fn play<R: Print>(rt: &R, script: &[u8]) -> io::Result<()> {
     let mut bench = started(0, 1);
-    let mut i = 0;
-    while i < script.len() {
-        bench = bench.played(script[i]);
-        i += 1;
+    for c in script {
+        bench = bench.played(rt, *c)?;
     }
+    Ok(())
 }
 
-fn main() {
-    let mut script = io::large_buffer();
-    let n = io::read_full(0, &mut script);
-    play(&script[..n]);
+fn main(rt: HostRuntime) -> io::Result<()> {
+    let mut script = Vec::new(rt.alloc());
+    rt.reader().read_to_end(&mut script)?;
+    play(&rt, &script)
 }

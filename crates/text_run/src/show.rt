@@ -1,77 +1,66 @@
 // What is printed of each case.
 use line::{ReadRecord, Written};
 use record::Board;
+use std::io;
 use text::Checked;
 
-fn pair(number: u32, second: usize) {
-    io::print_decimal(1, number as u64);
-    io::write_all(1, b" ");
-    io::print_decimal(1, second as u64);
-    io::write_all(1, b"\n");
+fn pair<R: Print>(rt: &R, number: u32, second: usize) -> io::Result<()> {
+    println!(rt; "{number} {second}")
 }
 
-fn three(number: u32, line: usize, bad: u32) {
-    io::print_decimal(1, number as u64);
-    io::write_all(1, b"\t");
-    io::print_decimal(1, line as u64);
-    io::write_all(1, b"\t");
-    io::print_decimal(1, bad as u64);
-    io::write_all(1, b"\n");
+fn three<R: Print>(rt: &R, number: u32, line: usize, bad: u32) -> io::Result<()> {
+    println!(rt; "{number}\t{line}\t{bad}")
 }
 
 // The case's name, the refusal's number, its line and its field.
-pub(crate) fn answer(name: &[u8], text: &[u8]) {
-    io::write_all(1, name);
-    io::write_all(1, b"\t");
+pub(crate) fn answer<R: Print>(rt: &R, name: &str, text: &[u8]) -> io::Result<()> {
+    print!(rt; "{name}\t")?;
     match text::check_text(text) {
-        Checked::Readable(_, _) => {
-            three(0, 0, 0);
-        }
-        Checked::Refused(answer, line, bad) => {
-            three(record::answer_number(answer), line, bad);
-        }
+        Checked::Readable(_, _) => three(rt, 0, 0, 0),
+        Checked::Refused(answer, line, bad) => three(rt, record::answer_number(answer), line, bad),
     }
 }
 
-fn print_front(n: usize, bytes: &[u8]) {
+fn print_front<R: Print>(rt: &R, n: usize, bytes: &[u8]) -> io::Result<()> {
     if n <= bytes.len() {
-        io::write_all(1, &bytes[..n]);
+        return rt.write_all(&bytes[..n]);
     }
+    Ok(())
 }
 
-fn print_written(w: Written, bytes: &[u8]) {
+fn print_written<R: Print>(rt: &R, w: Written, bytes: &[u8]) -> io::Result<()> {
     match w {
-        Written::OutOfRange => {
-            io::write_all(1, b"9 0\n");
-        }
-        Written::TooShort => {
-            io::write_all(1, b"10 0\n");
-        }
+        Written::OutOfRange => println!(rt; "9 0"),
+        Written::TooShort => println!(rt; "10 0"),
         Written::Length(n) => {
-            pair(0, n);
-            print_front(n, bytes);
+            pair(rt, 0, n)?;
+            print_front(rt, n, bytes)
         }
     }
 }
 
 // A record's line, read and written back.
-pub(crate) fn again(text: &[u8]) {
+pub(crate) fn again<R: Print>(rt: &R, text: &[u8]) -> io::Result<()> {
     let ReadRecord::Value(rec, _) = text::record_at(text, 0) else {
-        io::write_all(1, b"no record\n");
-        return;
+        return println!(rt; "no record");
     };
     let mut space: [u8; 32] = [0; 32];
     let out: &mut [u8] = &mut space;
     let w = line::write_record(rec, out);
     let Written::Length(n) = w else {
-        io::write_all(1, b"not written\n");
-        return;
+        return println!(rt; "not written");
     };
-    print_front(n, &space);
+    print_front(rt, n, &space)
 }
 
 // A board, written to an output of a given room.
-pub(crate) fn board(status: u8, sector: u8, address: u8, room: usize) {
+pub(crate) fn board<R: Print>(
+    rt: &R,
+    status: u8,
+    sector: u8,
+    address: u8,
+    room: usize,
+) -> io::Result<()> {
     let b = Board {
         status,
         sector,
@@ -80,8 +69,8 @@ pub(crate) fn board(status: u8, sector: u8, address: u8, room: usize) {
     let mut space: [u8; 32] = [0; 32];
     let out: &mut [u8] = &mut space;
     if out.len() < room {
-        return;
+        return Ok(());
     }
     let w = line::write_board(b, &mut out[..room]);
-    print_written(w, &space);
+    print_written(rt, w, &space)
 }
