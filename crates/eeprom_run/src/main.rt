@@ -111,7 +111,10 @@ fn show_cycle<R: Print>(rt: &R, t: &Bench) -> io::Result<()> {
 
 // One data byte at 0010, as far as its cycle.
 fn written<R: Print>(rt: &R, name: &str) -> io::Result<Bench> {
-    begin(rt, name)?.sta(rt)?.send(rt, b"\xaa\x00\x10\x77")?.sto(rt)
+    begin(rt, name)?
+        .sta(rt)?
+        .send(rt, b"\xaa\x00\x10\x77")?
+        .sto(rt)
 }
 
 // No acknowledge in the cycle, nor after a `sta` in it though `end` came between; another address is silent all the same.
@@ -126,26 +129,43 @@ fn polling<R: Print>(rt: &R) -> io::Result<()> {
 }
 
 fn reading<R: Print>(rt: &R) -> io::Result<()> {
-    let t = begin(rt, "random read")?.sta(rt)?.send(rt, b"\xaa\x12\x34")?;
+    let t = begin(rt, "random read")?
+        .sta(rt)?
+        .send(rt, b"\xaa\x12\x34")?;
     let u = t.sta(rt)?.send(rt, b"\xab\x00")?.last(rt)?.sto(rt)?;
     done(rt)?;
     print!(rt; "current address")?;
-    u.sta(rt)?.send(rt, b"\xab")?.last(rt)?.send(rt, b"\x00")?.sto(rt)?;
+    u.sta(rt)?
+        .send(rt, b"\xab")?
+        .last(rt)?
+        .send(rt, b"\x00")?
+        .sto(rt)?;
     done(rt)?;
-    let v = begin(rt, "over the end")?.sta(rt)?.send(rt, b"\xaa\xff\xfe")?;
+    let v = begin(rt, "over the end")?
+        .sta(rt)?
+        .send(rt, b"\xaa\xff\xfe")?;
     v.sta(rt)?.send(rt, b"\xab\x00\x00\x00")?.last(rt)?.sto(rt)?;
     done(rt)?;
-    let w = begin(rt, "lost counter")?.sta(rt)?.send(rt, b"\xab\x00")?.last(rt)?.sto(rt)?;
+    let w = begin(rt, "lost counter")?
+        .sta(rt)?
+        .send(rt, b"\xab\x00")?
+        .last(rt)?
+        .sto(rt)?;
     w.sta(rt)?.send(rt, b"\xab\x00")?.sto(rt)?;
     done(rt)
 }
 
 fn addressing<R: Print>(rt: &R) -> io::Result<()> {
-    let t = begin(rt, "repeated start")?.sta(rt)?.send(rt, b"\xaa\x00\x05\x11\x22")?;
+    let t = begin(rt, "repeated start")?
+        .sta(rt)?
+        .send(rt, b"\xaa\x00\x05\x11\x22")?;
     let u = t.sta(rt)?.sto(rt)?.end(rt)?;
     u.sta(rt)?.send(rt, b"\xab")?.last(rt)?.sto(rt)?;
     done(rt)?;
-    let v = begin(rt, "other address")?.sta(rt)?.send(rt, b"\xac\x00\x05\x11")?.sto(rt)?;
+    let v = begin(rt, "other address")?
+        .sta(rt)?
+        .send(rt, b"\xac\x00\x05\x11")?
+        .sto(rt)?;
     v.sta(rt)?.send(rt, b"\x2a\xaa")?.sto(rt)?;
     done(rt)
 }
@@ -162,18 +182,25 @@ fn more_than_64<R: Print>(rt: &R) -> io::Result<()> {
     show_cycle(rt, &t)?;
     t.end(rt)?.sta(rt)?.send(rt, b"\xab")?.last(rt)?.sto(rt)?;
     done(rt)?;
-    let u = begin(rt, "no data")?.sta(rt)?.send(rt, b"\xaa\x00\x10")?.sto(rt)?;
+    let u = begin(rt, "no data")?
+        .sta(rt)?
+        .send(rt, b"\xaa\x00\x10")?
+        .sto(rt)?;
     u.end(rt)?;
     done(rt)
 }
 
 // The lock counts at `sto` alone; the counter has gone on all the same.
 fn locking<R: Print>(rt: &R) -> io::Result<()> {
-    let t = begin(rt, "lock at sto")?.sta(rt)?.send(rt, b"\xaa\x00\x05\x11")?;
+    let t = begin(rt, "lock at sto")?
+        .sta(rt)?
+        .send(rt, b"\xaa\x00\x05\x11")?;
     let u = t.line(LineEvent::LockOn).sto(rt)?.end(rt)?;
     u.sta(rt)?.send(rt, b"\xab")?.last(rt)?.sto(rt)?;
     done(rt)?;
-    let v = begin(rt, "lock before sto")?.sta(rt)?.line(LineEvent::LockOn);
+    let v = begin(rt, "lock before sto")?
+        .sta(rt)?
+        .line(LineEvent::LockOn);
     let w = v.send(rt, b"\xaa\x00\x05\x11")?.line(LineEvent::LockOff);
     w.sto(rt)?.line(LineEvent::LockOn).end(rt)?;
     done(rt)
@@ -188,15 +215,22 @@ fn cutting<R: Print>(rt: &R) -> io::Result<()> {
 
 // The supply goes off in a cycle, with an open frame, and before a frame opens; a repeated state does nothing.
 fn supply<R: Print>(rt: &R) -> io::Result<()> {
-    let t = written(rt, "off in a cycle")?.line(LineEvent::SupplyOff).end(rt)?;
+    let t = written(rt, "off in a cycle")?
+        .line(LineEvent::SupplyOff)
+        .end(rt)?;
     let u = t.line(LineEvent::SupplyOff).line(LineEvent::SupplyOn);
     u.sta(rt)?.send(rt, b"\xab\x00")?.sto(rt)?;
     done(rt)?;
-    let v = begin(rt, "off in a frame")?.sta(rt)?.send(rt, b"\xaa\x00")?.line(LineEvent::SupplyOff);
+    let v = begin(rt, "off in a frame")?
+        .sta(rt)?
+        .send(rt, b"\xaa\x00")?
+        .line(LineEvent::SupplyOff);
     let w = v.send(rt, b"\x05")?.line(LineEvent::SupplyOn);
     w.send(rt, b"\x11")?.sto(rt)?;
     done(rt)?;
-    let x = begin(rt, "opened when off")?.line(LineEvent::SupplyOff).sta(rt)?;
+    let x = begin(rt, "opened when off")?
+        .line(LineEvent::SupplyOff)
+        .sta(rt)?;
     x.line(LineEvent::SupplyOn).send(rt, b"\xaa")?.sto(rt)?;
     done(rt)?;
     let y = written(rt, "on again")?.line(LineEvent::SupplyOn).end(rt)?;

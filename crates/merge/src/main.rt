@@ -2,26 +2,25 @@
 #![tactic(auto)]
 
 use files::File;
-use libc::{STDERR_FILENO, STDOUT_FILENO};
 
-fn main() {
+fn main(rt: HostRuntime) {
     // One byte more than a text may have is enough to know that it is too long. A file that is missing has no bytes.
     let mut levels = [0u8; text::LIMIT + 1];
-    let File::Read(_, levels_len) = files::load(b"levels.tsv", &mut levels) else {
+    let File::Read(_, levels_len) = files::load(&rt, "levels.tsv", &mut levels) else {
         return;
     };
     let mut logger = [0u8; text::LIMIT + 1];
-    let File::Read(_, logger_len) = files::load(b"logger.tsv", &mut logger) else {
+    let File::Read(_, logger_len) = files::load(&rt, "logger.tsv", &mut logger) else {
         return;
     };
     let mut out = [0u8; printing::MERGE_ROOM];
     let done = printing::print_merge(&levels[..levels_len], &logger[..logger_len], &mut out);
     if !done.accepted {
         // Where this fails nobody is left to be told.
-        io::write_all(STDERR_FILENO, &out[..done.len]);
+        let _ = rt.stderr().write_all(&out[..done.len]);
         return;
     }
-    if !io::write_all(STDOUT_FILENO, &out[..done.len]) {
-        os::fail(b"standard output");
+    if let Err(e) = rt.write_all(&out[..done.len]) {
+        files::report(&rt, "standard output", e);
     }
 }

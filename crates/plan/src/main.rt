@@ -2,21 +2,20 @@
 #![tactic(auto)]
 
 use files::File;
-use libc::STDOUT_FILENO;
 
-fn main() {
+fn main(rt: HostRuntime) {
     // One byte more than the chip has tells that a content is longer. A file that is missing has no bytes, so it is refused.
     let mut present = [0u8; page::FLASH_SIZE as usize + 1];
-    let File::Read(_, present_len) = files::load(b"present.bin", &mut present) else {
+    let File::Read(_, present_len) = files::load(&rt, "present.bin", &mut present) else {
         return;
     };
     let mut wanted = [0u8; page::FLASH_SIZE as usize + 1];
-    let File::Read(_, wanted_len) = files::load(b"wanted.bin", &mut wanted) else {
+    let File::Read(_, wanted_len) = files::load(&rt, "wanted.bin", &mut wanted) else {
         return;
     };
     // Two digits, LF, and one byte more.
     let mut status = [0u8; 4];
-    let File::Read(_, status_len) = files::load(b"status.txt", &mut status) else {
+    let File::Read(_, status_len) = files::load(&rt, "status.txt", &mut status) else {
         return;
     };
     let mut out = [0u8; entries::ROOM];
@@ -26,7 +25,7 @@ fn main() {
         &status[..status_len],
         &mut out,
     );
-    if !io::write_all(STDOUT_FILENO, &out[..n]) {
-        os::fail(b"standard output");
+    if let Err(e) = rt.write_all(&out[..n]) {
+        files::report(&rt, "standard output", e);
     }
 }

@@ -2,21 +2,20 @@
 #![tactic(auto)]
 
 use files::File;
-use libc::STDOUT_FILENO;
 
-fn main() {
+fn main(rt: HostRuntime) {
     // One byte more than a text may have is enough to know that it is too long.
     let mut text = [0u8; text::LIMIT + 1];
-    let File::Read(_, text_len) = files::load(b"trace.tsv", &mut text) else {
+    let File::Read(_, text_len) = files::load(&rt, "trace.tsv", &mut text) else {
         return;
     };
     // One byte more than an image has tells that a dump is longer.
     let mut flash = [0u8; image::FLASH_KEPT + 1];
-    let File::Read(flash_there, flash_len) = files::load(b"flash.bin", &mut flash) else {
+    let File::Read(flash_there, flash_len) = files::load(&rt, "flash.bin", &mut flash) else {
         return;
     };
     let mut eeprom = [0u8; image::EEPROM_KEPT + 1];
-    let File::Read(eeprom_there, eeprom_len) = files::load(b"eeprom.bin", &mut eeprom) else {
+    let File::Read(eeprom_there, eeprom_len) = files::load(&rt, "eeprom.bin", &mut eeprom) else {
         return;
     };
     let mut out = [0u8; listing::ROOM];
@@ -28,7 +27,7 @@ fn main() {
         eeprom_there,
         &mut out,
     );
-    if !io::write_all(STDOUT_FILENO, &out[..n]) {
-        os::fail(b"standard output");
+    if let Err(e) = rt.write_all(&out[..n]) {
+        files::report(&rt, "standard output", e);
     }
 }

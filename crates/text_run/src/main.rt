@@ -148,7 +148,11 @@ fn hex_digits<R: Print>(rt: &R) -> io::Result<()> {
         "hex of three digits",
         b"board\t00\t1\t0\n1\tF\tsel\n1\tF\tx\t005\tff\n",
     )?;
-    answer(rt, "hex g", b"board\t00\t1\t0\n1\tF\tsel\n1\tF\tx\t0g\tff\n")
+    answer(
+        rt,
+        "hex g",
+        b"board\t00\t1\t0\n1\tF\tsel\n1\tF\tx\t0g\tff\n",
+    )
 }
 
 fn channels<R: Print>(rt: &R) -> io::Result<()> {
@@ -188,7 +192,11 @@ fn event_fields<R: Print>(rt: &R) -> io::Result<()> {
         b"board\t00\t1\t0\n1\tE\tsta\n1\tE\tb\ta0\n",
     )?;
     answer(rt, "ack 2", b"board\t00\t1\t0\n1\tE\tsta\n1\tE\tb\ta0\t2\n")?;
-    answer(rt, "ack 00", b"board\t00\t1\t0\n1\tE\tsta\n1\tE\tb\ta0\t00\n")
+    answer(
+        rt,
+        "ack 00",
+        b"board\t00\t1\t0\n1\tE\tsta\n1\tE\tb\ta0\t00\n",
+    )
 }
 
 fn odd_bytes<R: Print>(rt: &R) -> io::Result<()> {
@@ -208,9 +216,17 @@ fn every_event<R: Print>(rt: &R) -> io::Result<()> {
 }
 
 fn falling_stamps<R: Print>(rt: &R) -> io::Result<()> {
-    answer(rt, "equal stamps", b"board\t00\t1\t0\n5\tF\tsel\n5\tF\tdes\n")?;
+    answer(
+        rt,
+        "equal stamps",
+        b"board\t00\t1\t0\n5\tF\tsel\n5\tF\tdes\n",
+    )?;
     answer(rt, "falling", b"board\t00\t1\t0\n10\tF\tsel\n9\tF\tdes\n")?;
-    answer(rt, "falling to 0", b"board\t00\t1\t0\n1\tL\ton\n0\tL\toff\n")?;
+    answer(
+        rt,
+        "falling to 0",
+        b"board\t00\t1\t0\n1\tL\ton\n0\tL\toff\n",
+    )?;
     answer(
         rt,
         "falling on another channel",
