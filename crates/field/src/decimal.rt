@@ -6,7 +6,7 @@ ghost use Rattle.field.specs.Readers.{digit_on, push_of, decimal_fault, stopped_
 use crate::Cursor;
 
 // Value: with the place where the content ends. Bad: the field's number, since its content is no such decimal.
-#[derive(Drop)]
+#[derive(Clone, Copy)]
 pub enum ReadDecimal {
     Value(u32, Cursor),
     Bad(u32),

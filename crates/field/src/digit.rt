@@ -5,7 +5,7 @@ ghost use Rattle.field.specs.Readers.{digit_fault, ReadsDigit};
 use crate::Cursor;
 
 // Value: with the place after the digit. Bad: the field's number, since it does not begin with such a digit.
-#[derive(Drop)]
+#[derive(Clone, Copy)]
 pub enum ReadDigit {
     Value(u8, Cursor),
     Bad(u32),

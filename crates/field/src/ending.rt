@@ -4,14 +4,14 @@ ghost use Rattle.field.specs.Readers.{ends_here, end_byte, end_fault, ReadsEnd};
 
 use crate::Cursor;
 
-#[derive(Drop)]
+#[derive(Clone, Copy)]
 pub enum FieldEnd {
     Tab,
     Lf,
 }
 
 // Bad: the field's own number where its content goes on here; where it ends, but not with that byte, the next field's.
-#[derive(Drop)]
+#[derive(Clone, Copy)]
 pub enum ReadEnd {
     Here(Cursor),
     Bad(u32),

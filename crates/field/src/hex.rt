@@ -5,7 +5,7 @@ ghost use Rattle.field.specs.Readers.{digit_value, letter_value, nibble_of, hex_
 use crate::Cursor;
 
 // Value: with the place after the digits. Bad: the field's number, since it does not begin with two hex digits.
-#[derive(Drop)]
+#[derive(Clone, Copy)]
 pub enum ReadHex {
     Value(u8, Cursor),
     Bad(u32),

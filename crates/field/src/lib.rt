@@ -18,7 +18,7 @@ pub use spelling::{ROOM, Spelling, no_bytes, put_decimal, put_hex, put_word};
 pub use word::{ReadWord, read_word, word_fault};
 
 // A place in a text.
-#[derive(Drop)]
+#[derive(Clone, Copy)]
 pub struct Cursor {
     pub at: usize,
 }

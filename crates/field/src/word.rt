@@ -5,7 +5,7 @@ ghost use Rattle.field.specs.Readers.{word_fault, ReadsWord};
 use crate::Cursor;
 
 // Here: with the place after the word. Bad: the field's number, since it does not begin with the word.
-#[derive(Drop)]
+#[derive(Clone, Copy)]
 pub enum ReadWord {
     Here(Cursor),
     Bad(u32),
