@@ -22,7 +22,7 @@ page_shown bytes chip number =
     pick (can_show (λ c. length (bytes c)) chip number) (take (page_size chip) (drop (page_size chip * number) (bytes chip))) []
 
 -- What is shown is a part of the image asked for, not a copy: it lies where that image lies, further on by the page's place, and its bytes are the page's. A lent
--- part's `ptr` is the memory that it lies in and the place in that.
+-- part's `ref_ptr` is the memory that it lies in and the place in that.
 pub record Shows (images : Chip → Bor (List ℕ)) (chip : Chip) (number : ℕ) (part : Bor (List ℕ)) : Type 0 where
-  pub lies : part.ref_ptr ≡ ((images chip).ptr.0, view_place (λ c. length (images c).now) chip number + (images chip).ptr.1)
+  pub lies : part.ref_ptr ≡ ((images chip).ref_ptr.0, view_place (λ c. length (images c).now) chip number + (images chip).ref_ptr.1)
   pub bytes : part.now ≡ page_shown (λ c. (images c).now) chip number

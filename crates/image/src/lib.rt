@@ -36,7 +36,7 @@ pub fn kept_bytes(chip: Chip) -> usize
 }
 
 // What becomes of the places of a page.
-#[derive(Drop)]
+#[derive(Clone, Copy)]
 enum Change {
     Program,
     CutProgram,
@@ -45,6 +45,7 @@ enum Change {
 }
 
 // The end of PROGRAM in page `number`: `bytes` is ff where nothing was sent.
+#[tactic(auto, unfolding(crate::specs::Cycles::program_page))]
 pub fn program_page(values: &mut [u8], masks: &mut [u8], number: usize, bytes: [u8; FLASH_PAGE])
     ensures { image_of values.new masks.new ≡ program_page number bytes (image_of values.old masks.old) }
 {
@@ -52,6 +53,7 @@ pub fn program_page(values: &mut [u8], masks: &mut [u8], number: usize, bytes: [
 }
 
 // PROGRAM in page `number`, cut by the supply.
+#[tactic(auto, unfolding(crate::specs::Cycles::cut_program_page))]
 pub fn cut_program_page(values: &mut [u8], masks: &mut [u8], number: usize, bytes: [u8; FLASH_PAGE])
     ensures { image_of values.new masks.new ≡ cut_program_page number bytes (image_of values.old masks.old) }
 {
@@ -59,6 +61,7 @@ pub fn cut_program_page(values: &mut [u8], masks: &mut [u8], number: usize, byte
 }
 
 // The end of an erase.
+#[tactic(auto, unfolding(crate::specs::Cycles::erase_all))]
 pub fn erase(values: &mut [u8], masks: &mut [u8])
     ensures { image_of values.new masks.new ≡ erase_all (image_of values.old masks.old) }
 {
@@ -66,6 +69,7 @@ pub fn erase(values: &mut [u8], masks: &mut [u8])
 }
 
 // An erase, cut by the supply.
+#[tactic(auto, unfolding(crate::specs::Cycles::cut_erase_all))]
 pub fn cut_erase(values: &mut [u8], masks: &mut [u8])
     ensures { image_of values.new masks.new ≡ cut_erase_all (image_of values.old masks.old) }
 {
@@ -73,6 +77,7 @@ pub fn cut_erase(values: &mut [u8], masks: &mut [u8])
 }
 
 // The end of an EEPROM write in page `number`: `count` bytes were sent from place `first` on.
+#[tactic(auto, unfolding(crate::specs::Cycles::store_page))]
 pub fn store_page(
     values: &mut [u8],
     masks: &mut [u8],
@@ -91,6 +96,7 @@ pub fn store_page(
 }
 
 // An EEPROM write in page `number`, cut by the supply: it leaves the whole page in doubt, so which bytes were sent is not asked.
+#[tactic(auto, unfolding(crate::specs::Cycles::cut_store_page))]
 pub fn cut_store_page(values: &mut [u8], masks: &mut [u8], number: usize)
     ensures { image_of values.new masks.new ≡ cut_store_page number (image_of values.old masks.old) }
 {

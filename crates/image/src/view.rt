@@ -18,6 +18,7 @@ pub fn view<'a>(flash: &'a [u8], eeprom: &'a [u8], chip: Chip, number: usize) ->
 }
 
 // For a caller that can be given no part: where in its image the page stands, by the lengths of the two images.
+#[tactic(auto, unfolding(crate::specs::View::view_place))]
 pub fn view_place(flash: usize, eeprom: usize, chip: Chip, number: usize) -> usize
     ensures { result ≡ view_place (per_chip flash eeprom) chip number }
 {
@@ -29,6 +30,7 @@ pub fn view_place(flash: usize, eeprom: usize, chip: Chip, number: usize) -> usi
 }
 
 // And how long it is: 0 is refusal 11.
+#[tactic(auto, unfolding(crate::specs::View::view_length))]
 pub fn view_length(flash: usize, eeprom: usize, chip: Chip, number: usize) -> usize
     ensures { result ≡ view_length (per_chip flash eeprom) chip number }
 {
