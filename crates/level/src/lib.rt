@@ -10,7 +10,7 @@ mod reader;
 pub use reader::{ReadLevel, read_level};
 
 // The flash's four lines, and HOLD.
-#[derive(Drop)]
+#[derive(Clone, Copy)]
 pub struct Spi {
     pub cs: bool,
     pub sck: bool,
@@ -20,13 +20,13 @@ pub struct Spi {
 }
 
 // The two wires of the EEPROM.
-#[derive(Drop)]
+#[derive(Clone, Copy)]
 pub struct Wires {
     pub scl: bool,
     pub sda: bool,
 }
 
-#[derive(Drop)]
+#[derive(Clone, Copy)]
 pub struct Level {
     pub stamp: u32,
     pub spi: Spi,
