@@ -8,7 +8,7 @@ ghost use Rattle.times.specs.Put.{entries_with, pages_with, times_with};
 use record::Chip;
 
 // Which of the pages that are kept of a chip are touched.
-#[derive(Drop)]
+#[derive(Clone, Copy)]
 pub enum Pages {
     None,
     One(u32),
@@ -16,7 +16,7 @@ pub enum Pages {
 }
 
 // Of both chips.
-#[derive(Drop)]
+#[derive(Clone, Copy)]
 pub struct Touched {
     pub flash: Pages,
     pub eeprom: Pages,
@@ -54,6 +54,7 @@ pub fn first_entry(chip: Chip) -> u32
 }
 
 // Byte q of the entry of a page that was written at the stamp.
+#[tactic(auto, using(crate::proofs::Noting::past))]
 fn entry_byte(stamp: u32, q: usize) -> u8
     ensures { result ≡ entry_byte (written stamp) q }
 {
@@ -113,6 +114,7 @@ fn put_pages(table: &mut [u8], chip: Chip, stamp: u32, pages: Pages)
 }
 
 // Both chips' pages that a record of this stamp touches.
+#[tactic(auto, unfolding(crate::specs::Put::times_with))]
 pub fn put_times(table: &mut [u8], stamp: u32, touched: Touched)
     ensures { table.new ≡ times_with stamp touched table.old }
 {
