@@ -9,7 +9,7 @@ use eeprom::Eeprom;
 use flash::Flash;
 use record::{Board, EepromEvent, Event, FlashEvent, LineEvent, Lines, Record, Skeleton};
 
-#[derive(Drop)]
+#[derive(Clone, Copy)]
 pub struct Controls {
     pub flash: Flash,
     pub eeprom: Eeprom,
@@ -17,7 +17,7 @@ pub struct Controls {
 }
 
 // The controls after a record, and its reply.
-#[derive(Drop)]
+#[derive(Clone, Copy)]
 pub struct Moved {
     pub controls: Controls,
     pub reply: Skeleton,
@@ -95,6 +95,7 @@ impl Controls {
     }
 
     // Any record.
+    #[tactic(auto, unfolding(crate::specs::Play::moved_of))]
     pub fn play(self, board: Board, rec: Record) -> Moved
         ensures { result ≡ moved_of board self rec }
     {
