@@ -5,13 +5,13 @@ ghost use Rattle.decode.specs.Decoded.{flash_start, wires_start, turn_of};
 use crate::{FlashBits, Out, WireBits};
 use level::Level;
 
-#[derive(Drop)]
+#[derive(Clone, Copy)]
 pub enum Bits {
     Flash(FlashBits),
     Wires(WireBits),
 }
 
-#[derive(Drop)]
+#[derive(Clone, Copy)]
 pub struct Turn {
     pub bits: Bits,
     pub out: Out,

@@ -7,14 +7,14 @@ use level::Spi;
 use record::{Event, FlashEvent};
 
 // The bits of a byte that is not complete: how many, and SI's and SO's.
-#[derive(Drop)]
+#[derive(Clone, Copy)]
 pub struct FlashBits {
     pub count: u8,
     pub si: u8,
     pub so: u8,
 }
 
-#[derive(Drop)]
+#[derive(Clone, Copy)]
 pub struct FlashTurn {
     pub bits: FlashBits,
     pub out: Out,

@@ -15,7 +15,7 @@ pub use flash_bits::{FlashBits, FlashTurn};
 pub use wire_bits::{Clock, Link, WireBits, WireTurn};
 
 // What a line of the capture gives. Of two events `cut` is the first.
-#[derive(Drop)]
+#[derive(Clone, Copy)]
 pub enum Out {
     Nothing,
     One(Event),

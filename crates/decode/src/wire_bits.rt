@@ -7,26 +7,26 @@ use level::Wires;
 use record::{EepromEvent, Event};
 
 // Open: a start came and no stop since; with the bits of a byte that is not complete, how many and which.
-#[derive(Drop)]
+#[derive(Clone, Copy)]
 pub enum Link {
     Closed,
     Open(u8, u8),
 }
 
 // Bit: SCL is high, with SDA's level at its rise, and no start or stop came since.
-#[derive(Drop)]
+#[derive(Clone, Copy)]
 pub enum Clock {
     Nothing,
     Bit(bool),
 }
 
-#[derive(Drop)]
+#[derive(Clone, Copy)]
 pub struct WireBits {
     pub link: Link,
     pub clock: Clock,
 }
 
-#[derive(Drop)]
+#[derive(Clone, Copy)]
 pub struct WireTurn {
     pub bits: WireBits,
     pub out: Out,
