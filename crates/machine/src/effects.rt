@@ -11,7 +11,7 @@ use record::{Chip, Event, LineEvent, Lines, Skeleton};
 use times::Pages;
 
 // What a record does to a chip's cycle.
-#[derive(Drop)]
+#[derive(Clone, Copy)]
 pub enum Stroke {
     Nothing,
     Whole,

@@ -20,6 +20,7 @@ fn element(list: &[u8], p: u32) -> u8
 }
 
 // A reply as it is delivered from an image.
+#[tactic(auto, unfolding(crate::specs::Replies::delivered))]
 fn deliver(values: &[u8], masks: &[u8], k: Skeleton) -> Reply
     ensures { result ≡ delivered (image_of values.now masks.now) k }
 {
@@ -115,6 +116,7 @@ fn see_eeprom(e: EepromEvent, reply: Reply) -> Match
 }
 
 // How the reply to an event compares with what was recorded.
+#[tactic(auto, unfolding(crate::specs::Replies::compared))]
 pub fn compare(event: Event, reply: Reply) -> Match
     ensures { result ≡ compared event reply }
 {
