@@ -14,6 +14,7 @@ ghost use Rattle.buffers.specs.Put.{replies_with};
 use record::{Chip, Match, Reply};
 
 // None of the grounds of refusal 1 holds.
+#[tactic(auto, unfolding(crate::specs::Buffers::fit))]
 pub fn fits_all(
     flash: &[u8],
     flash_mask: &[u8],
@@ -35,6 +36,7 @@ pub fn fits_all(
 }
 
 // The same where only images and a result are lent.
+#[tactic(auto, unfolding(crate::specs::Buffers::fit_images))]
 pub fn fits_images(
     flash: &[u8],
     flash_mask: &[u8],
@@ -60,6 +62,7 @@ pub fn fits_images(
 }
 
 // As many values and masks as bytes are kept of the chip.
+#[tactic(auto, unfolding(image::specs::Image::spans))]
 fn image_fits(chip: Chip, values: &[u8], masks: &[u8]) -> bool
     ensures { result ≡ spans (kept_bytes chip) (image_of values.now masks.now) }
 {
