@@ -7,16 +7,16 @@ use native.Mathlib.Omega.{arith}
 use lib.Bits.{bit_and, and_self, and_comm}
 use lib.ListN.{length, get_or, drop, length-append}
 use lib.Seq.{get_or-take, get_or-drop}
-use borrow.Author.Tests.{eq-eqb, ne_eqb, ltb-true}
+use borrow.Author.Tests.{eq-eqb, ne_eqb}
 use Rattle.law.specs.Words.{pick}
 use Rattle.law.specs.Choice.{split, true_not_false}
 use Rattle.flash.specs.Code.{sector_of, sector_locked}
 use Rattle.page.specs.Geometry.{flash_page, flash_sector, flash_size, flash_sectors, sector_pages, chip_pages}
 use Rattle.fewest.specs.declared.Test.TheVariants.{Differs, Rises, Unblank}
-use Rattle.fewest.specs.Below.{sum_below, count_below, one, joined_below, any_false, sum_same, sum_plus, sum_zero, sum_blocks, length_joined}
+use Rattle.fewest.specs.Below.{count_below, one, joined_below, any_false, sum_same, sum_zero, sum_blocks, length_joined}
 use Rattle.fewest.specs.Entries.{Entry, sector_erase, chip_erase, program, starts, byte_after, byte_after_all, Yields, cycles}
 use Rattle.fewest.specs.Fewest.{page_of}
-use Rattle.fewest.specs.Plan.{in_page, in_sector, pages_of, erases_in, erased, test_in, chosen, programs_in, erase_of, erases, program_of, programs, plan_by, differs_locked}
+use Rattle.fewest.specs.Plan.{in_page, in_sector, pages_of, erases_in, test_in, chosen, programs_in, erase_of, erases, program_of, programs, plan_by, differs_locked}
 use Rattle.fewest.proofs.Traces.{after_append, joined_one}
 use Rattle.fewest.proofs.Costs.{sector_cost, cost_by_sectors}
 use Rattle.fewest.proofs.Facts.{and_ff, some_in, none_in, differs, same, rises, rises_not, blank, all_locked}

@@ -1,16 +1,16 @@
 -- What a list cannot do without, in the words of the counting: without a chip erase, and with one. Where nothing differs in a locked sector these are the plans' numbers.
-use mathlib.Core.Path.{◌≡◌, refl, sym, ap, ap₂, ◌∙◌}
-use mathlib.Core.Bool.{Bool, true, false, not}
+use mathlib.Core.Path.{◌≡◌, refl, sym, ap, ◌∙◌}
+use mathlib.Core.Bool.{true, false}
 use mathlib.Core.List.{List}
-use Prim.Native.Nat.{ℕ, suc, ◌+◌, ◌*◌, ◌/◌, ◌≤◌, ◌<◌}
+use Prim.Native.Nat.{ℕ, suc, ◌+◌, ◌<◌}
 use native.Mathlib.Omega.{arith}
 use Rattle.law.specs.Words.{pick}
 use Rattle.law.specs.Choice.{split}
 use Rattle.flash.specs.Code.{sector_locked}
 use Rattle.page.specs.Geometry.{flash_sectors}
 use Rattle.fewest.specs.declared.Test.TheVariants.{Differs, Rises, Unblank}
-use Rattle.fewest.specs.Below.{sum_below, count_below, one, sum_same, sum_plus, sum_zero}
-use Rattle.fewest.specs.Plan.{in_page, in_sector, pages_of, erases_in, erased, test_in, programs_in}
+use Rattle.fewest.specs.Below.{sum_below, one, sum_same, sum_plus}
+use Rattle.fewest.specs.Plan.{in_sector, pages_of, erases_in, test_in, programs_in}
 
 module _ (present wanted : List ℕ) where
   -- a sector where a bit has to rise takes its erase and each page that is not all ff, another the pages that differ

@@ -1,5 +1,5 @@
 -- How many bytes a list of entries takes, and that no plan takes more than there is room for. Assumes nothing.
-use mathlib.Core.Path.{◌≡◌, refl, sym, ap, ap₂, ◌∙◌, subst}
+use mathlib.Core.Path.{◌≡◌, refl, sym, ap, ap₂, ◌∙◌}
 use mathlib.Core.Bool.{Bool, true, false}
 use mathlib.Core.List.{List, [], ◌∷◌, ◌++◌, append-nil, append_assoc}
 use Prim.Native.Nat.{ℕ, zero, suc, ◌+◌, ◌-◌, ◌*◌, ◌≤◌, ◌<◌}
@@ -13,7 +13,7 @@ use Rattle.page.specs.Geometry.{flash_page, flash_sectors, flash_size, sector_pa
 use Rattle.flash.specs.Code.{sector_locked}
 use Rattle.fewest.specs.declared.Test.{Test}
 use Rattle.fewest.specs.declared.Test.TheVariants.{Rises, Unblank}
-use Rattle.fewest.specs.Below.{joined_below, sum_below, count_below, one, sum_le}
+use Rattle.fewest.specs.Below.{joined_below, sum_below, count_below}
 use Rattle.fewest.specs.Entries.{Entry, sector_erase, chip_erase, program}
 use Rattle.fewest.specs.Fewest.{spelled_entry, spelled_list, page_of, most_room}
 use Rattle.fewest.specs.Plan.{in_page, in_sector, pages_of, erase_of, erases, chosen, program_of, programs, plan_by, plan_of, by_chip, erases_in, programs_in, test_in, differs_locked}

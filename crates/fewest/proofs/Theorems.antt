@@ -9,7 +9,7 @@ use borrow.Author.Tests.{ltb-true, ltb-false}
 use Rattle.law.specs.Words.{pick, All}
 use Rattle.law.specs.Choice.{split, true_not_false, both}
 use Rattle.law.specs.Deciding.{Decides}
-use Rattle.flash.specs.Code.{sector_of, sector_locked}
+use Rattle.flash.specs.Code.{sector_locked}
 use Rattle.page.specs.Geometry.{flash_sector, flash_sectors}
 use Rattle.fewest.specs.declared.Test.TheVariants.{Differs}
 use Rattle.fewest.specs.Below.{any_here, any_true}

@@ -3,7 +3,7 @@
 #![tactic(auto)]
 
 // Tests of a place by its present byte and its wanted one: they differ; a bit has to rise from 0 to 1; the wanted one is not ff.
-#[derive(Drop)]
+#[derive(Clone, Copy)]
 pub enum Test {
     Differs,
     Rises,
