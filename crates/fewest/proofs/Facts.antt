@@ -36,16 +36,6 @@ not_eqb a b t = eqb-false a b (not-true (eqb a b) t)
 yes_eqb : (a b : ℕ) → not (eqb a b) ≡ false → a ≡ b
 yes_eqb a b t = eqb-true a b (not-false (eqb a b) t)
 
--- where no bit has to rise, bytes that differ have a wanted one that is not ff
-pub falls_unblank : (v w : ℕ) → v < 256 → holds Rises v w ≡ false → holds Differs v w ≡ true → holds Unblank v w ≡ true
-falls_unblank v w b r d =
-    split (eqb w 255)
-    (λ t.
-    let e : w ≡ 255 = eqb-true w 255 t in
-    let u : bit_and v w ≡ w = yes_eqb (bit_and v w) w r in
-    absurd (not_eqb v w d (sym (and_ff v b) ∙ ap (bit_and v) (sym e) ∙ u)))
-    (λ t. rw t refl)
-
 -- ---- the tests of a stretch
 
 module _ (present wanted : List ℕ) where
@@ -92,11 +82,21 @@ module _ (present wanted : List ℕ) where
   pub rises_not : (k : ℕ) → holds_at Rises k ≡ false → bit_and (get_or present k 0) (get_or wanted k 0) ≡ get_or wanted k 0
   rises_not k t = yes_eqb (bit_and (get_or present k 0) (get_or wanted k 0)) (get_or wanted k 0) t
 
+  pub blank : (k : ℕ) → holds_at Unblank k ≡ false → get_or wanted k 0 ≡ 255
+  blank k t = yes_eqb (get_or wanted k 0) 255 t
+
   pub unblank : (k : ℕ) → holds_at Unblank k ≡ true → get_or wanted k 0 ≡ 255 → ⊥
   unblank k t = not_eqb (get_or wanted k 0) 255 t
 
-  pub blank : (k : ℕ) → holds_at Unblank k ≡ false → get_or wanted k 0 ≡ 255
-  blank k t = yes_eqb (get_or wanted k 0) 255 t
+-- where no bit has to rise, bytes that differ have a wanted one that is not ff
+pub falls_unblank : (v w : ℕ) → v < 256 → holds Rises v w ≡ false → holds Differs v w ≡ true → holds Unblank v w ≡ true
+falls_unblank v w b r d =
+    split (eqb w 255)
+    (λ t.
+    let e : w ≡ 255 = eqb-true w 255 t in
+    let u : bit_and v w ≡ w = yes_eqb (bit_and v w) w r in
+    absurd (not_eqb v w d (sym (and_ff v b) ∙ ap (bit_and v) (sym e) ∙ u)))
+    (λ t. rw t refl)
 
 -- ---- the lock table: where the first sector is locked, all are
 pub all_locked : (status s : ℕ) → sector_locked status 1 ≡ true → sector_locked status s ≡ true
