@@ -5,26 +5,26 @@ ghost use Rattle.text.specs.Buses.{flash_bus, eeprom_bus, all_closed, moved};
 use record::{EepromEvent, Event, FlashEvent};
 
 // Closed: not selected, or no `sta` since the start or the last `sto`. Spoilt: after `cut`.
-#[derive(Drop)]
+#[derive(Clone, Copy)]
 pub enum Bus {
     Closed,
     Open,
     Spoilt,
 }
 
-#[derive(Drop)]
+#[derive(Clone, Copy)]
 pub enum Moved {
     To(Bus),
     Impossible,
 }
 
-#[derive(Drop)]
+#[derive(Clone, Copy)]
 pub struct Buses {
     pub flash: Bus,
     pub eeprom: Bus,
 }
 
-#[derive(Drop)]
+#[derive(Clone, Copy)]
 pub enum Moves {
     To(Buses),
     Impossible,

@@ -8,7 +8,7 @@ use line::{ReadBoard, ReadRecord};
 use record::{Answer, Board};
 
 // Readable: the board, and the place of the first record. Refused: the answer, the line's number, counted from 1, and the field's, 0 for answers other than 3.
-#[derive(Drop)]
+#[derive(Clone, Copy)]
 pub enum Checked {
     Readable(Board, Cursor),
     Refused(Answer, usize, u32),

@@ -5,7 +5,7 @@ ghost use Rattle.line.specs.Records.{ReadsRecord};
 use field::Cursor;
 use line::ReadRecord;
 
-#[derive(Drop)]
+#[derive(Clone, Copy)]
 pub struct Reader<'a> {
     pub text: &'a [u8],
     pub at: usize,
