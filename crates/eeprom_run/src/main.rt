@@ -80,10 +80,8 @@ impl Bench {
 
     fn send<R: Print>(self, rt: &R, bytes: &[u8]) -> io::Result<Bench> {
         let mut now = self;
-        let mut i = 0;
-        while i < bytes.len() {
-            now = now.bus(rt, EepromEvent::Byte(bytes[i], false))?;
-            i += 1;
+        for b in bytes {
+            now = now.bus(rt, EepromEvent::Byte(*b, false))?;
         }
         Ok(now)
     }
@@ -173,10 +171,8 @@ fn addressing<R: Print>(rt: &R) -> io::Result<()> {
 // 70 data bytes from 007e on: the last six replace the first six.
 fn more_than_64<R: Print>(rt: &R) -> io::Result<()> {
     let mut now = begin(rt, "70 bytes")?.sta(rt)?.send(rt, b"\xaa\x00\x7e")?;
-    let mut i: u8 = 0;
-    while i < 70 {
+    for i in 0..70u8 {
         now = now.bus(rt, EepromEvent::Byte(i, false))?;
-        i += 1;
     }
     let t = now.sto(rt)?;
     show_cycle(rt, &t)?;

@@ -177,7 +177,10 @@ impl Bench {
                 })
             }
             b'S' => self.bus(rt, FlashEvent::Select),
-            b'X' => self.bus(rt, FlashEvent::Byte(self.typed, 0)),
+            b'X' => {
+                let typed = self.typed;
+                self.bus(rt, FlashEvent::Byte(typed, 0))
+            }
             b'C' => self.bus(rt, FlashEvent::Cut),
             b'D' => self.bus(rt, FlashEvent::Deselect),
             b'E' => self.bus(rt, FlashEvent::End),
