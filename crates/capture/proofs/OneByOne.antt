@@ -8,7 +8,6 @@ use lib.Seq.{drop-drop, drop-append_seam}
 use Rattle.law.specs.Words.{All}
 use Rattle.field.specs.Reads.{Stands}
 use Rattle.field.proofs.Reading.{Got, stands_length}
-use Rattle.line.specs.Records.{spelled}
 use Rattle.text.proofs.OneReading as text
 use Rattle.level.proofs.Theorems.{level_length}
 use Rattle.capture.specs.OneByOne.{Lines, From, records, levels}

@@ -22,7 +22,7 @@ use Rattle.decode.specs.Decoded.{decoded_by, flash_start, wires_start, flash_of,
 use Rattle.capture.specs.declared.Part.{Part}
 use Rattle.capture.specs.declared.Part.TheVariants.{FlashEnds, EepromEnds, Lines}
 use Rattle.capture.specs.declared.Fault.TheVariants.{Nothing}
-use Rattle.capture.specs.Taken.{part_of, taken, taken_of, moves_flash, moves_eeprom, flash_movers, eeprom_movers}
+use Rattle.capture.specs.Taken.{part_of, taken_of, moves_flash, moves_eeprom, flash_movers, eeprom_movers}
 use Rattle.capture.specs.Captures.{none, line, fault_of, Faultless, Captures}
 use Rattle.capture.specs.Merge.{number_of, channel_place, gathered, Merged}
 use Rattle.capture.proofs.OneCapture.{bad_not_nothing}

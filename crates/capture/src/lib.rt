@@ -7,7 +7,7 @@ ghost use Rattle.capture.specs.Taken.{flash_end, eeprom_end, is_of, taken};
 use record::{EepromEvent, Event, FlashEvent, LevelsAnswer};
 
 // What is taken: the cycle ends of each chip, and the line records.
-#[derive(Drop)]
+#[derive(Clone, Copy)]
 pub enum Part {
     FlashEnds,
     EepromEnds,
@@ -15,7 +15,7 @@ pub enum Part {
 }
 
 // What is wrong with a line that has the form of one.
-#[derive(Drop)]
+#[derive(Clone, Copy)]
 pub enum Fault {
     Nothing,
     Bad(LevelsAnswer),
