@@ -11,7 +11,7 @@ use field::{Cursor, FieldEnd, ReadDigit, ReadEnd, ReadHex, ReadWord, Spelling};
 use record::Board;
 
 // Bad: the number of the first bad field.
-#[derive(Drop)]
+#[derive(Clone, Copy)]
 pub enum ReadBoard {
     Value(Board, Cursor),
     Bad(u32),

@@ -7,7 +7,7 @@ use field::{Cursor, FieldEnd, ReadEnd};
 use record::Event;
 
 // Bad: the number of the first bad field.
-#[derive(Drop)]
+#[derive(Clone, Copy)]
 pub enum ReadEvent {
     Value(Event, Cursor),
     Bad(u32),

@@ -6,7 +6,7 @@ ghost use Rattle.line.specs.Output.{Wrote};
 
 use field::Spelling;
 
-#[derive(Drop)]
+#[derive(Clone, Copy)]
 pub enum Written {
     OutOfRange,
     TooShort,

@@ -12,7 +12,7 @@ use field::{Cursor, FieldEnd, ReadDecimal, ReadEnd, ReadWord, Spelling};
 use record::{Event, Record};
 
 // Bad: the number of the first bad field.
-#[derive(Drop)]
+#[derive(Clone, Copy)]
 pub enum ReadRecord {
     Value(Record, Cursor),
     Bad(u32),
