@@ -14,7 +14,7 @@ use record::{Answer, Board, LevelsAnswer, Record};
 use text::Checked;
 
 // The first record taken from the logger whose stamp is not below one: its place, whether its stamp is that one, and a stamp below which none is taken from there on.
-#[derive(Drop)]
+#[derive(Clone, Copy)]
 struct Reach {
     at: usize,
     hit: bool,
@@ -22,14 +22,14 @@ struct Reach {
 }
 
 // Usable: the first line, and the place behind it. Bad: the refusal and the line's number, counted from 1.
-#[derive(Drop)]
+#[derive(Clone, Copy)]
 pub enum CheckedLevels {
     Usable(Level, usize),
     Bad(LevelsAnswer, usize),
 }
 
 // Refused: the answer's number, the line and the field. Both: the board and the place of the first record in the trace; the first level line and the place behind it.
-#[derive(Drop)]
+#[derive(Clone, Copy)]
 pub enum Judged {
     Refused(u32, usize, u32),
     Both(Board, usize, Level, usize),
