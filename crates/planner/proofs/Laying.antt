@@ -1,24 +1,23 @@
 -- The bytes of a list of entries, laid one after the other: their lengths, and stores that follow one another. Assumes nothing.
 use mathlib.Core.Path.{◌≡◌, refl, sym, ap, ap₂, ◌∙◌, subst}
 use mathlib.Core.Bool.{Bool, true, false}
-use mathlib.Core.List.{List, [], ◌∷◌, ◌++◌, append-nil, append_assoc}
-use Prim.Native.Nat.{ℕ, zero, suc, ◌+◌, ◌-◌, ◌*◌, ◌≤◌, ◌<◌}
+use mathlib.Core.List.{List, [], ◌∷◌, ◌++◌, append_assoc}
+use Prim.Native.Nat.{ℕ, zero, suc, ◌+◌, ◌*◌, ◌≤◌, ◌<◌}
 use mathlib.Core.Logic.{⊎_elim}
-use native.Mathlib.Nat.{eq-or-lt_of_le, le_of_suc-le-suc, add-zero, add-suc, suc-add, mul-add, mul-zero}
+use native.Mathlib.Nat.{eq-or-lt_of_le, le_of_suc-le-suc, add-zero, add-suc, suc-add}
 use native.Mathlib.Numerals.{add-one, add-two, add-three}
 use native.Mathlib.Omega.{arith}
-use lib.ListN.{length, take, drop, set, get_or, length-append, length-drop}
-use lib.Seq.{sets, sets-eq, length-sets, length-take-le, drop-drop, get_or-take, get_or-drop, ext_get_or}
+use lib.ListN.{length, take, drop, set, get_or, length-append}
+use lib.Seq.{sets, sets-eq, length-sets, drop-drop, get_or-take, get_or-drop, ext_get_or}
 use Rattle.law.specs.Words.{pick, by_place}
 use Rattle.law.specs.Places.{by_place_length, by_place_at}
 use Rattle.page.specs.Geometry.{flash_page, flash_size, flash_sectors, sector_pages}
 use Rattle.fewest.specs.Below.{joined_below, joined_more, joined_same, joined_blocks}
 use Rattle.fewest.specs.Entries.{Entry, sector_erase, chip_erase, program}
 use Rattle.fewest.specs.Fewest.{address, spelled_entry, spelled_list, page_of}
-use Rattle.fewest.specs.Plan.{in_sector, erase_of, erases, chosen, program_of, programs, plan_by, erases_in, programs_in, program_if, sector_programs, test_in}
+use Rattle.fewest.specs.Plan.{erases, program_of, programs, plan_by, program_if, sector_programs, test_in}
 use Rattle.fewest.proofs.Attains.{in_sector_lem}
 use Rattle.fewest.proofs.Sizes.{spelled_append, length_spelled_append, spelled_one, spelled_none, length_page}
-use Rattle.fewest.specs.declared.Test.TheVariants.{Rises}
 use Rattle.fewest.specs.Call.{laid_over}
 
 -- two runs of stores, one after the other

@@ -148,6 +148,7 @@ fn test_in(present: &[u8], wanted: &[u8], status: u8, chip: bool, s: usize) -> T
 }
 
 // How many erases the plan has.
+#[tactic(auto, unfolding(fewest::specs::Plan::erases_in))]
 fn count_erases(present: &[u8], wanted: &[u8], chip: bool) -> usize
     requires { (length present.now ≡ flash_size) × (length wanted.now ≡ flash_size) }
     ensures value { result ≡ erases_in present.now wanted.now chip }
@@ -202,6 +203,7 @@ fn count_all(present: &[u8], wanted: &[u8], status: u8, chip: bool) -> usize
 }
 
 // Does a chip erase pay?
+#[tactic(auto, unfolding(fewest::specs::Plan::by_chip))]
 fn by_chip(present: &[u8], wanted: &[u8], status: u8) -> bool
     requires { (length present.now ≡ flash_size) × (length wanted.now ≡ flash_size) }
     ensures { result ≡ by_chip present.now wanted.now status }
@@ -238,6 +240,7 @@ fn differs_locked(present: &[u8], wanted: &[u8], status: u8) -> bool
 }
 
 // The first four bytes of an entry: its kind, and an address, high byte first.
+#[tactic(auto, using(crate::proofs::Laying::four_set))]
 fn put_head(list: &mut [u8], at: usize, kind: u8, place: usize)
     requires { at + 4 ≤ length list.old }
     ensures { list.new ≡ sets list.old at (kind ∷ address place) }
@@ -382,7 +385,7 @@ fn put_plan(list: &mut [u8], present: &[u8], wanted: &[u8], status: u8, chip: bo
 }
 
 // What becomes of a plan: the answer, and the number of its entries.
-#[derive(Drop)]
+#[derive(Clone, Copy)]
 struct Made {
     answer: PlanAnswer,
     number: u32,
@@ -409,7 +412,7 @@ fn lay_by(list: &mut [u8], present: &[u8], wanted: &[u8], status: u8, chip: bool
     }
 }
 
-// None of the grounds of `Unfit`: a result of `result` bytes, both contents the whole chip's, and a status without other bits than 7, 3 and 2.
+// None of the grounds of `Unfit`: a result of `res` bytes, both contents the whole chip's, and a status without other bits than 7, 3 and 2.
 fn fits(present: &[u8], wanted: &[u8], status: u8, res: usize) -> bool
     ensures { result ≡ fitting status (length present.now) (length wanted.now) res }
 {
@@ -425,7 +428,7 @@ fn fits(present: &[u8], wanted: &[u8], status: u8, res: usize) -> bool
     record::status_ok(status)
 }
 
-// The plan, laid where nothing forbids it; for a result of `result` bytes.
+// The plan, laid where nothing forbids it; for a result of `res` bytes.
 fn make(list: &mut [u8], present: &[u8], wanted: &[u8], status: u8, res: usize) -> Made
     ensures { made_as result.answer result.number list.new ≡ made status present.now wanted.now list.old res }
 {

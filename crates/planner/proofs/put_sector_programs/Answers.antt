@@ -1,0 +1,55 @@
+use Rattle.std.proofs.Common.{◌≡◌, ℕ, ◌+◌, ◌*◌, Bool, List, [], ◌∷◌, ap, arith}
+use Rattle.law.specs.Words.{pick}
+use Rattle.page.specs.Geometry.{sector_pages}
+use Rattle.fewest.specs.Entries.{Entry, program}
+use Rattle.fewest.specs.Fewest.{page_of}
+use Rattle.fewest.specs.Plan.{program_if, sector_programs}
+use Rattle.planner.proofs.Laying.{lay_start, lay_none, lay_room, lay_at, lay_so}
+use Rattle.planner.proofs.put_sector_programs.Goals as goal
+
+pub loop-j-init : goal.loop-j-init
+loop-j-init c =
+    let a = c.args in
+    let f : ℕ → List Entry = λ i. program_if a.present.now a.wanted.now a.test (sector_pages * a.s + i) in
+    (omega arith, lay_start f a.first a.list.now, lay_none f a.first a.list.now)
+
+pub put_program_if-at-requires : goal.put_program_if-at-requires
+unfolding sector_programs
+put_program_if-at-requires c =
+    let a = c.args in
+    let l = c.loop-j in
+    let p = c.requires in
+    let n = sector_pages * a.s + l.j in (
+      p.1,
+      omega arith,
+      lay_room (λ i. program_if a.present.now a.wanted.now a.test (sector_pages * a.s + i)) a.first a.list.now sector_pages l.j l.at l.list (pick c.in_page-yes.result (program n (page_of a.wanted.now n) ∷ []) [])
+          (omega arith) (ap (λ (b : Bool). pick b (program n (page_of a.wanted.now n) ∷ []) []) c.in_page-yes.ensures) l.invariant.1 p.3 l.auto.list,
+    )
+
+pub loop-j-preserved : goal.loop-j-preserved
+loop-j-preserved c =
+    let a = c.args in
+    let l = c.loop-j in
+    let e = c.put_program_if-at.ensures in
+    let f : ℕ → List Entry = λ i. program_if a.present.now a.wanted.now a.test (sector_pages * a.s + i) in
+    let n = sector_pages * a.s + l.j in
+    let one : List Entry = pick c.in_page-yes.result (program n (page_of a.wanted.now n) ∷ []) [] in
+    let x = ap (λ (b : Bool). pick b (program n (page_of a.wanted.now n) ∷ []) []) c.in_page-yes.ensures in (
+      omega arith,
+      lay_at f a.first a.list.now l.j l.at c.put_program_if-at.result one x l.invariant.1 e.next,
+      lay_so f a.first a.list.now l.j l.at l.list c.put_program_if-at.new.list one x l.invariant.1 l.invariant.2 e.list_after,
+    )
+
+pub returns-clause-list_after : goal.returns-clause-list_after
+unfolding sector_programs
+returns-clause-list_after c =
+    let l = c.loop-j in
+    let e : l.j ≡ sector_pages = omega arith in
+    rw e at l.invariant.2
+
+pub returns-clause-next : goal.returns-clause-next
+unfolding sector_programs
+returns-clause-next c =
+    let l = c.loop-j in
+    let e : l.j ≡ sector_pages = omega arith in
+    rw e at l.invariant.1
