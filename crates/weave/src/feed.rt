@@ -11,7 +11,7 @@ use line::ReadRecord;
 use record::Record;
 
 // Behind a line of the capture: the place of the next line, the line itself, the bits so far, and what the line still gives.
-#[derive(Drop)]
+#[derive(Clone, Copy)]
 pub struct Behind {
     pub at: usize,
     pub last: Level,
@@ -20,14 +20,14 @@ pub struct Behind {
 }
 
 // The next record of the capture, and where its feed goes on; or nothing is left.
-#[derive(Drop)]
+#[derive(Clone, Copy)]
 pub enum LevelFeed {
     Done,
     Next(Record, Behind),
 }
 
 // The next record of one part of the logger's trace, and the place after it; or nothing is left.
-#[derive(Drop)]
+#[derive(Clone, Copy)]
 pub enum TraceFeed {
     Done,
     Next(Record, usize),

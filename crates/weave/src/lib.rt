@@ -27,7 +27,7 @@ pub const MOST: usize = 25740;
 pub const ABOVE: u64 = 12884901888;
 
 // The feeds, and before them the numbers of their heads, so that the search for the next one looks at no feed.
-#[derive(Drop)]
+#[derive(Clone, Copy)]
 pub struct Weave {
     pub numbers: [u64; FEEDS],
     pub flash: LevelFeed,
@@ -38,14 +38,14 @@ pub struct Weave {
 }
 
 // The next record, if one is left.
-#[derive(Drop)]
+#[derive(Clone, Copy)]
 pub enum Head {
     Done,
     Next(Record),
 }
 
 // The next record, and what is left behind it.
-#[derive(Drop)]
+#[derive(Clone, Copy)]
 pub struct Woven {
     pub head: Head,
     pub left: Weave,
