@@ -104,17 +104,19 @@ module _ {R : Type 0} (b : Board) (reply : Controls → Record → R) where
   less (line_first {l = r} o) a s l e = line_less r o (λ t k d. less o a t k d) s l e (repeats_of l r.event) refl
 
   -- for each order without them one with them
+  past : {bs ms : List Record} (r : Record) (ls : List Record) (l : Lines) →
+      ((cs : List Record) → All OfBus cs → (s : Controls) → s.lines ≡ lines_next l r.event → (o : Order Record Record cs ms) → Like o s ls) →
+      All OfBus bs → (s : Controls) → s.lines ≡ l → (o : Order Record Record bs (r ∷ ms)) → Like o s (r ∷ ls)
+  unfolding All
+  past r ls l f a s e (bus_first {b = d} o) = like_bus d o s (past r ls l f a.1 (played b s d) (bus_keeps b s d a.0 ∙ e) o)
+  past r ls l f a s e (line_first o) = like_line r o s (f _ a (played b s r) (lines_played b s r ∙ ap (λ (k : Lines). lines_next k r.event) e) o)
+
   module _ (r : Record) (ls : List Record) (l : Lines)
       (f : (bs : List Record) → All OfBus bs → (s : Controls) (k : Lines) → s.lines ≡ k → (o : Order Record Record bs (telling k ls)) → Like o s ls) where
-    past : {bs : List Record} → All OfBus bs → (s : Controls) → s.lines ≡ l → (o : Order Record Record bs (r ∷ telling (lines_next l r.event) ls)) → Like o s (r ∷ ls)
-    unfolding All
-    past a s e (bus_first {b = d} o) = like_bus d o s (past a.1 (played b s d) (bus_keeps b s d a.0 ∙ e) o)
-    past a s e (line_first o) = like_line r o s (f _ a (played b s r) _ (lines_played b s r ∙ ap (λ (k : Lines). lines_next k r.event) e) o)
-
     line_more : (t : Bool) → repeats_of l r.event ≡ t → {bs : List Record} → All OfBus bs → (s : Controls) → s.lines ≡ l →
         (o : Order Record Record bs (pick t (telling l ls) (r ∷ telling (lines_next l r.event) ls))) → Like o s (r ∷ ls)
     line_more true q a s e o = like_more r s (repeats_stays b s r (rw e q)) o (f _ a s l e o)
-    line_more false q a s e o = past a s e o
+    line_more false q a s e o = past r ls l (λ cs c t d p. f cs c t _ d p) a s e o
 
   more : (ls : List Record) {bs : List Record} → All OfBus bs → (s : Controls) (l : Lines) → s.lines ≡ l → (o : Order Record Record bs (telling l ls)) → Like o s ls
   unfolding telling

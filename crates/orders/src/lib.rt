@@ -24,7 +24,7 @@ pub const MOST_LINE: usize = 2;
 pub const MOST_IN_ALL: usize = 2 * MOST_BUS + MOST_LINE;
 
 // The records of one stamp by channel. A count may be above what the array holds: then the stamp is crowded.
-#[derive(Drop)]
+#[derive(Clone, Copy)]
 pub struct Held {
     pub flash: [Record; MOST_BUS],
     pub flash_count: usize,
@@ -35,7 +35,7 @@ pub struct Held {
 }
 
 // The records of one bus and of the lines.
-#[derive(Drop)]
+#[derive(Clone, Copy)]
 struct Tied {
     buses: [Record; MOST_BUS],
     bus_count: usize,
@@ -44,13 +44,13 @@ struct Tied {
     board: Board,
 }
 
-#[derive(Drop)]
+#[derive(Clone, Copy)]
 struct Said {
     reply: Skeleton,
 }
 
 // The line records that are kept, of those looked at so far, and the lines after these.
-#[derive(Drop)]
+#[derive(Clone, Copy)]
 struct Told {
     records: [Record; MOST_LINE],
     count: usize,
@@ -58,14 +58,14 @@ struct Told {
 }
 
 // How an order ends: the controls, and the bus records' replies.
-#[derive(Drop)]
+#[derive(Clone, Copy)]
 struct Outcome {
     controls: Controls,
     replies: [Said; MOST_BUS],
 }
 
 // What is found at a stamp, the first that holds: too many records, orders that differ, a status lost after it.
-#[derive(Drop)]
+#[derive(Clone, Copy)]
 pub enum Verdict {
     Crowded,
     Differ,
