@@ -4,7 +4,7 @@ use mathlib.Core.Bool.{Bool, true, false}
 use mathlib.Core.List.{List}
 use Prim.Native.Nat.{ℕ}
 use Rattle.tied.specs.Orders
-use Rattle.tied.specs.Control.{Control, Lawful, fetches, plain}
+use Rattle.tied.specs.Control.{Control, Lawful, fetches}
 use Rattle.tied.proofs.Parts as parts
 use Rattle.tied.proofs.Parts.{Effects, bus_with, reply_with, line_with, skeletons_are_enough, all_is_enough, one_part, one_delivered, one_told}
 use Rattle.law.specs.Words.{All}

@@ -14,19 +14,18 @@ use Rattle.record.specs.declared.Record.{Record}
 use Rattle.record.specs.declared.PlanAnswer.TheVariants.{Unfit, Locked, NoRoom}
 use Rattle.record.specs.Lengths.{plan_result_length}
 use Rattle.record.specs.Word.{word}
-use Rattle.field.specs.Decimal.{largest}
 use Rattle.buffers.specs.Buffers.{plan_result_after}
 use Rattle.flash.specs.Step.{start_of}
 use Rattle.machine.specs.Machine.{Machine}
-use Rattle.fewest.specs.Entries.{Entry, sector_erase, chip_erase, program, starts, byte_after_all, Yields, cycles, has, is_chip_erase}
-use Rattle.fewest.specs.Fewest.{IsPlan, DiffersLocked, Formed, page_of, spelled_list, most_room}
+use Rattle.fewest.specs.Entries.{Entry, sector_erase, chip_erase, program, byte_after_all, Yields, cycles, has, is_chip_erase}
+use Rattle.fewest.specs.Fewest.{IsPlan, DiffersLocked, Formed, spelled_list, most_room}
 use Rattle.fewest.specs.Call.{Left, left_as, laid_over, Fits, refused_with, Plans, unfit, locked, no_room, planned}
-use Rattle.fewest.specs.Plan.{plan_of, by_chip, differs_locked, called}
+use Rattle.fewest.specs.Plan.{plan_of, differs_locked, called}
 use Rattle.fewest.proofs.Cycles.{cycles_le, each_starts}
 use Rattle.fewest.proofs.Outcomes.{called_plans, allowed, the_plan, is_plan, determined}
 use Rattle.fewest.proofs.Sizes.{length_page, plan_most, plan_room}
 use Rattle.refill.specs.Records.{events_of_all, Bear, Shows}
-use Rattle.refill.specs.Refill.{Bytes, Sized, Read, Replayed, PlanYields, PlanReplays, PlanFewest, PlanNoChip, PlanGrounds, PlanRoom, PlanClaims, AllPlanClaims, SomePlan}
+use Rattle.refill.specs.Refill.{Bytes, Sized, Read, Replayed, PlanYields, PlanReplays, PlanFewest, PlanNoChip, PlanGrounds, PlanClaims, AllPlanClaims, SomePlan}
 use Rattle.refill.proofs.OneReading.{read_one}
 use Rattle.refill.proofs.Replayed.{plan_replays}
 

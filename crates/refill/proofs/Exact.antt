@@ -5,17 +5,14 @@ use mathlib.Core.Bool.{Bool, true, false, not}
 use mathlib.Core.List.{List, [], ◌∷◌, ◌++◌, append_assoc}
 use native.Mathlib.Nat.{add-zero}
 use native.Mathlib.Omega.{arith}
-use lib.ListN.{length, get_or}
+use lib.ListN.{get_or}
 use Rattle.law.specs.Words.{All, pick}
 use Rattle.law.specs.Choice.{split, true_not_false}
-use Rattle.page.specs.Geometry.{flash_page, flash_sector, flash_sectors, flash_size}
+use Rattle.page.specs.Geometry.{flash_page, flash_sector, flash_sectors}
 use Rattle.meaning.specs.Meaning.{F, after, replies}
 use Rattle.cell.specs.declared.Cell.{Cell}
-use Rattle.record.specs.declared.Board.{Board}
-use Rattle.record.specs.declared.Record.{Record}
 use Rattle.record.specs.declared.Lines.{Lines}
 use Rattle.flash.specs.declared.Flash.{Flash}
-use Rattle.flash.specs.Step.{start_of}
 use Rattle.machine.specs.Machine.{Machine, on_machine}
 use Rattle.record.specs.declared.FlashEvent.{FlashEvent}
 use Rattle.record.specs.declared.FlashEvent.TheVariants.{Deselect, End}
@@ -32,7 +29,7 @@ use Rattle.machine.specs.Effects.{flash_after}
 use Rattle.machine.specs.Replies.{delivered}
 use Rattle.page.specs.Roll.{roll}
 use Rattle.fewest.specs.Entries.{Entry, sector_erase, chip_erase, program, starts, byte_after, byte_after_all, Yields, cycles, sure}
-use Rattle.refill.specs.Records.{bytes_sent, opened, framed, wren, instruction_of, events_of, events_of_all, Bear, Shows}
+use Rattle.refill.specs.Records.{bytes_sent, opened, framed, wren, instruction_of, events_of, events_of_all, Shows}
 use Rattle.refill.specs.Refill.{Sized, of_kind, count}
 use Rattle.refill.specs.Played.{Run, EntriesPlayed, FewestPlayed}
 use Rattle.refill.proofs.Halves.{Half, half, played, tally, powered, idle, in_command, whole_of}

@@ -1,7 +1,7 @@
 -- Claim 30: records of one channel have one order, and those of a plan lose no status; so their trace settles. Assumes nothing.
-use Prim.Native.Nat.{ℕ, suc, ◌≤◌, ◌<◌}
+use Prim.Native.Nat.{ℕ, ◌≤◌, ◌<◌}
 use mathlib.Core.Path.{◌≡◌, refl, sym, ap, subst, ◌∙◌}
-use mathlib.Core.Bool.{Bool, true, false}
+use mathlib.Core.Bool.{Bool, false}
 use mathlib.Core.List.{List, [], ◌∷◌}
 use native.Mathlib.Omega.{arith}
 use lib.Dec.{eqb, leb}
@@ -22,9 +22,6 @@ use Rattle.flash.proofs.Lost.{step_keeps}
 use Rattle.image.specs.Images.{Images}
 use Rattle.controls.specs.Play.{moved_of}
 use Rattle.machine.specs.Machine.{Machine, machine_at_start, channel_of, play_on, on_machine}
-use Rattle.buffers.specs.Buffers.{Buffers}
-use Rattle.call.specs.Replay.{Ended, Replays}
-use Rattle.demands.specs.Grounds.{Taken}
 use Rattle.demands.proofs.Demands.{demands}
 use Rattle.demands.proofs.Readable.{readable_back, status_known}
 use Rattle.refill.specs.Records.{Bear, SameSent, Shows, events_of_all}

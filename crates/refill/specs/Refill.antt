@@ -1,5 +1,5 @@
 -- Believed: Claims 24 to 29 (document 02, request 6/12): what the caller of the plan gets, of any outcome that the promise of the exported call admits. The reasons stand in proofs/.
-use Rattle.std.specs.Prelude.{ℕ, suc, ◌+◌, ◌*◌, ◌≤◌, ◌<◌, ◌≡◌, true, ◌⊎◌, List, [], ◌∷◌, ◌++◌, eqb, length, get_or, take}
+use Rattle.std.specs.Prelude.{ℕ, suc, ◌+◌, ◌≤◌, ◌<◌, ◌≡◌, true, ◌⊎◌, List, [], ◌∷◌, ◌++◌, eqb, length, get_or, take}
 use Rattle.law.specs.Words.{All, pick}
 use Rattle.meaning.specs.Meaning.{F, after, replies}
 use Rattle.page.specs.Geometry.{flash_page, flash_sectors, chip_pages}
