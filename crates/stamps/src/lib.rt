@@ -16,7 +16,7 @@ use orders::{Held, Verdict};
 use record::{Board, Event, LineEvent, Record};
 
 // The records of one stamp by channel and as they are written, and the place after them.
-#[derive(Drop)]
+#[derive(Clone, Copy)]
 pub struct Gathered {
     pub held: Held,
     pub records: [Record; orders::MOST_IN_ALL],
@@ -240,7 +240,7 @@ fn gather(text: &[u8], first: Gathered, stamp: u32) -> Gathered
 }
 
 // What is found at the stamp of the record at a place, its records as they are written, and the place after them.
-#[derive(Drop)]
+#[derive(Clone, Copy)]
 pub struct Judgement {
     pub verdict: Verdict,
     pub records: [Record; orders::MOST_IN_ALL],
