@@ -1,8 +1,7 @@
 -- What is printed of two contents and a status is one. Assumes nothing.
 use Prim.Native.Nat.{ℕ, ◌≤◌, ◌<◌}
-use native.Mathlib.Omega.{arith}
 use mathlib.Core.Path.{◌≡◌, refl, sym, ap, ◌∙◌, subst}
-use mathlib.Core.Logic.{◌⊎◌, ⊎_elim}
+use mathlib.Core.Logic.{⊎_elim}
 use mathlib.Core.List.{List, [], ◌++◌}
 use lib.ListN.{length, get_or}
 use Rattle.law.specs.Choice.{lt_or_le}
@@ -13,7 +12,7 @@ use Rattle.fewest.specs.Entries.{Entry}
 use Rattle.fewest.specs.Fewest.{IsPlan, DiffersLocked}
 use Rattle.fewest.specs.Call.{laid_over}
 use Rattle.fewest.proofs.Outcomes.{the_plan}
-use Rattle.entries.specs.Printed.{entry_lines, cycles_line, refusal_line, print_room, Usable, PlanPrinted, unfit, locked, planned, PrintsPlan}
+use Rattle.entries.specs.Printed.{entry_lines, cycles_line, print_room, Usable, PlanPrinted, unfit, locked, planned, PrintsPlan}
 
 -- a text spells one status
 one_status : (text : List ℕ) (s t : ℕ) → s < 256 → t < 256 → text ≡ hex_field s ++ lf → text ≡ hex_field t ++ lf → s ≡ t

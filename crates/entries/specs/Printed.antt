@@ -13,7 +13,7 @@ use Rattle.fewest.specs.Fewest.{IsPlan, DiffersLocked, address, first_place}
 use Rattle.fewest.specs.Call.{laid_over}
 
 -- ---- the lines
--- `sector-erase`, `chip_erase_lem`, `program`, `cycles`
+-- `sector-erase`, `chip-erase`, `program`, `cycles`
 abbrev pub word_sector_erase : List ℕ
 word_sector_erase = 115 ∷ 101 ∷ 99 ∷ 116 ∷ 111 ∷ 114 ∷ 45 ∷ 101 ∷ 114 ∷ 97 ∷ 115 ∷ 101 ∷ []
 
