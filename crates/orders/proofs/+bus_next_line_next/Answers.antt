@@ -23,13 +23,13 @@ bus_next-returns-then-not-bus_next t c =
 pub bus_next-line_next-requires : goal.bus_next-line_next-requires
 bus_next-line_next-requires t c =
     let u : Whole c.args.tied c.args.want = omega (arith, c.well_formed.1.0.1.1.0.1.0.1, c.well_formed.1.0.1.1.1.1.0.1.0.1, c.well_formed.1.1.1.1.1.0.1.1.1.0.1.0.1) in
-    (omega arith, (omega arith, meets _ _ u _ _ _ _ c.if-at-tied.true _ c.if-il-tied.true _ c.meeting-met.ensures (c.bus_next.ensures.holds c.if-not-bus_next.false)))
+    (omega arith, (omega arith, meets _ _ u _ _ _ _ c.if-at-tied.true _ (omega arith) _ c.meeting-met.ensures (c.bus_next.ensures.holds c.if-not-bus_next.false)))
 
 pub bus_next-returns-then-il-tied : goal.bus_next-returns-then-il-tied
 bus_next-returns-then-il-tied t c =
     let u : Whole c.args.tied c.args.want = omega (arith, c.well_formed.1.0.1.1.0.1.0.1, c.well_formed.1.0.1.1.1.1.0.1.0.1, c.well_formed.1.1.1.1.1.0.1.1.1.0.1.0.1) in
     after_bus _ _ u _ _ _ _ _ (omega arith) _ c.play-step.ensures (c.same_skeleton.ensures.holds c.if-not-same_skeleton.false)
-    (both_left _ _ u _ _ _ _ c.if-at-tied.true _ c.if-il-tied.true (c.bus_next.ensures.holds c.if-not-bus_next.false) c.line_next.ensures)
+    (both_left _ _ u _ _ _ _ c.if-at-tied.true _ (omega arith) (c.bus_next.ensures.holds c.if-not-bus_next.false) c.line_next.ensures)
 
 pub bus_next-returns-then-at-tied : goal.bus_next-returns-then-at-tied
 bus_next-returns-then-at-tied t c =
