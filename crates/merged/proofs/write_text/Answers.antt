@@ -1,0 +1,11 @@
+use Rattle.merged.proofs.CallLaws.{text_out, text_short, text_all}
+use Rattle.merged.proofs.write_text.Goals as goal
+
+pub returns-in-OutOfRange : goal.returns-in-OutOfRange
+returns-in-OutOfRange c = text_out c.write_board-done.ensures c.in-OutOfRange.is
+
+pub returns-in-TooShort : goal.returns-in-TooShort
+returns-in-TooShort c = text_short c.write_board-done.ensures c.in-TooShort.is
+
+pub returns-in-Length : goal.returns-in-Length
+returns-in-Length c = text_all c.write_board-done.ensures c.in-Length.is c.write_all.ensures
