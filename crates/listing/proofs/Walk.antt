@@ -4,8 +4,7 @@ use native.Mathlib.Omega.{arith}
 use native.Mathlib.Numerals.{add-one}
 use native.Mathlib.Nat.{add-zero, add-suc, suc-add, zero-add}
 use mathlib.Core.Path.{◌≡◌, refl, sym, ap, ap₂, subst, ◌∙◌}
-use mathlib.Core.Bool.{Bool, true, false, not}
-use borrow.Author.Tests.{not-true, not-false}
+use mathlib.Core.Bool.{Bool, true, false}
 use mathlib.Core.List.{List, [], ◌∷◌, ◌++◌, append_assoc, append-nil}
 use lib.ListN.{length, length-append}
 use lib.Seq.{sets, append_snoc}
@@ -102,14 +101,14 @@ module _ {text : List ℕ} {first : ℕ} {replies old : List ℕ} {from : ℕ} {
 
   -- as the code has it
   module _ {reply : Reply} {was : Bool} (is : reply ≡ reply_at replies k) (does : was ≡ was_played reply) where
-    pub unplayed : not was ≡ true → ListsRecords (ListedFrom text replies first 0) replies old from new at
-    unplayed t = over (λ r o s. sym (ap was_played is) ∙ sym does ∙ not-true _ t)
+    pub unplayed : was ≡ false → ListsRecords (ListedFrom text replies first 0) replies old from new at
+    unplayed t = over (λ r o s. sym (ap was_played is) ∙ sym does ∙ t)
 
-    pub onward : {r : Record} {found : Match} {s : Spelling} {new' : List ℕ} {next at' : ℕ} → not was ≡ false → Got spelled RecordOk text c r next → found ≡ match_at replies k → k < reply_places
+    pub onward : {r : Record} {found : Match} {s : Spelling} {new' : List ℕ} {next at' : ℕ} → was ≡ true → Got spelled RecordOk text c r next → found ≡ match_at replies k → k < reply_places
         → s ≡ put_all no_bytes (record_line (k + 2) r.stamp reply found) → at' ≡ at + s.len → new' ≡ sets new at (held s)
         → So text first replies old from new' at' next (k + 1)
     onward {r} t g same small e p f =
-        step r g (sym (ap was_played is) ∙ sym does ∙ not-false _ t) small (e ∙ ap₂ (λ (x : Reply) (m : Match). put_all no_bytes (record_line (k + 2) r.stamp x m)) is same) p f
+        step r g (sym (ap was_played is) ∙ sym does ∙ t) small (e ∙ ap₂ (λ (x : Reply) (m : Match). put_all no_bytes (record_line (k + 2) r.stamp x m)) is same) p f
 
 -- ---- behind the board's line
 pub behind_board : {text replies old new : List ℕ} {from n p : ℕ} {b : Board} → Got spelled_board BoardOk text 0 b p → ListsRecords (ListedFrom text replies p 0) replies old from new n → ListsRecords (Listed text replies) replies old from new n

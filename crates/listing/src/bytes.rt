@@ -60,6 +60,7 @@ pub(crate) fn was_played(reply: Reply) -> bool
 }
 
 // The reply of record k.
+#[tactic(auto, unfolding(crate::specs::Bytes::reply_at))]
 pub(crate) fn reply_at(replies: &[u8], k: usize) -> Reply
     requires { 4 * k + 4 ≤ length replies.now }
     ensures { result ≡ reply_at replies.now k }
@@ -69,6 +70,7 @@ pub(crate) fn reply_at(replies: &[u8], k: usize) -> Reply
 }
 
 // The match of record k.
+#[tactic(auto, unfolding(crate::specs::Bytes::match_at))]
 pub(crate) fn match_at(replies: &[u8], k: usize) -> Match
     requires { 4 * k + 4 ≤ length replies.now }
     ensures { result ≡ match_at replies.now k }
@@ -83,6 +85,7 @@ fn wide(byte: u8) -> u32
 }
 
 // The number in four bytes, low byte first.
+#[tactic(auto, unfolding(crate::specs::Bytes::number_at))]
 pub(crate) fn number_at(bytes: &[u8], at: usize) -> u32
     requires { at + 4 ≤ length bytes.now }
     ensures { result ≡ number_at bytes.now at }
@@ -95,6 +98,7 @@ pub(crate) fn number_at(bytes: &[u8], at: usize) -> u32
 }
 
 // Answers 1 to 5 are the refusals.
+#[tactic(auto, unfolding(crate::specs::Bytes::is_refusal))]
 pub(crate) fn is_refusal(answer: u32) -> bool
     ensures { result ≡ is_refusal answer }
 {

@@ -11,6 +11,7 @@ use crate::{bytes, lines, output};
 use field::Spelling;
 
 // Is the result of its length, and has an output of so many bytes room for any listing?
+#[tactic(auto, unfolding(crate::specs::Writing::is_ready))]
 pub(crate) fn is_ready(res: &[u8], bytes: usize) -> bool
     ensures { result ≡ is_ready res.now bytes }
 {

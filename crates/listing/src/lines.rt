@@ -37,6 +37,7 @@ fn put_reply(s: Spelling, reply: Reply) -> Spelling
     }
 }
 
+#[tactic(auto, unfolding(crate::specs::Lines::match_text))]
 fn put_match(s: Spelling, found: Match) -> Spelling
     ensures { result ≡ put_all s (match_text found) }
 {
@@ -80,6 +81,7 @@ fn stop_line(number: u32, stamp: u32) -> Spelling
 }
 
 // The last line of what was played.
+#[tactic(auto, unfolding(crate::specs::Lines::last_line))]
 pub fn last_line(answer: u32, stamp: u32, count: u32) -> Spelling
     ensures { result ≡ put_all no_bytes (last_line answer stamp count) }
 {
