@@ -85,24 +85,27 @@ built_since() {
   [ -e "$file" ] && [ -z "$(find "$@" -name out -prune -o -type f -newer "$file" -print -quit)" ]
 }
 
+# rt_in CRATE WORD..: what rt does in a crate's folder.
+rt_in() { (cd "crates/$1" && shift && rt "$@" </dev/null); }
+
 # The proved library, an archive for C. It is proved and built anew unless it is younger than every file of the crates.
 build_library() {
   built_since "$LIBRARY" crates crates.txt && return 0
   need_rt || return 1
   rm -f "$LIBRARY"
-  mkdir -p "$(dirname "$LIBRARY")" && quietly target/tests/library.log rt lib desk_c && cp crates/desk_c/out/libdesk_c.a "$LIBRARY"
+  mkdir -p "$(dirname "$LIBRARY")" && quietly target/tests/library.log rt_in desk_c lib && cp crates/desk_c/out/libdesk_c.a "$LIBRARY"
 }
 
 # program NAME: where the program lies, once it is built.
 program() { echo "crates/$1/out/$1"; }
 
 # build_program NAME: a program, proved and built, unless it is younger than every file of the crates. `rt run` builds it, and
-# runs it once, on the files beside its source.
+# runs it once, in the crate's folder.
 build_program() {
   built_since "$(program "$1")" crates crates.txt && return 0
   need_rt || return 1
   rm -f "$(program "$1")"
-  quietly "target/tests/$1.log" rt run "$1" || true
+  quietly "target/tests/$1.log" rt_in "$1" run || true
   [ -e "$(program "$1")" ]
 }
 
