@@ -302,24 +302,14 @@ fn chip_of(chip: u32) -> Chip
 }
 
 // Where a page stands in its image, by the images' lengths: the page view for a C caller.
-pub fn hazelcrook_page_place(
-    flash: usize,
-    eeprom: usize,
-    chip: u32,
-    number: usize,
-) -> usize
+pub fn hazelcrook_page_place(flash: usize, eeprom: usize, chip: u32, number: usize) -> usize
     ensures { result ≡ view_place (per_chip flash eeprom) (chip_of chip) number }
 {
     image::view::view_place(flash, eeprom, chip_of(chip), number)
 }
 
 // How long the page is; 0 is refusal 11.
-pub fn hazelcrook_page_length(
-    flash: usize,
-    eeprom: usize,
-    chip: u32,
-    number: usize,
-) -> usize
+pub fn hazelcrook_page_length(flash: usize, eeprom: usize, chip: u32, number: usize) -> usize
     ensures { result ≡ view_length (per_chip flash eeprom) (chip_of chip) number }
 {
     image::view::view_length(flash, eeprom, chip_of(chip), number)
@@ -339,12 +329,7 @@ pub fn hazelcrook_plan(
 }
 
 // One trace of a capture and a logger's trace: answers 0 to 5, 10, 12 and 13 (document 02, request 4/12).
-pub fn hazelcrook_merge(
-    levels: &[u8],
-    trace: &[u8],
-    output: &mut [u8],
-    res: &mut [u8],
-) -> u32
+pub fn hazelcrook_merge(levels: &[u8], trace: &[u8], output: &mut [u8], res: &mut [u8]) -> u32
     ensures { Merges levels.now trace.now (outputs_of output.old res.old) (wrote_as result (outputs_of output.new res.new)) }
 {
     merged::merge(levels, trace, output, res)
