@@ -1,4 +1,4 @@
-use Rattle.std.proofs.Common.{rules, arith, refl, ◌≡◌, ◌+◌, ◌≤◌, length}
+use Rattle.std.proofs.Common.{rules, arith, ◌≡◌, ◌+◌, ◌≤◌, length}
 use Rattle.meaning.specs.Channels.{most_in_all}
 use Rattle.call.proofs.Playing.{played_one, round, turned}
 use Rattle.desk.proofs.play_all.Goals as goal
@@ -19,7 +19,7 @@ loop-k-preserved c =
       same_times = omega arith;
       same_replies = omega arith;
       rest = round _ _ _ _ _ _ _ _ long c.loop-k-test.true
-        (played_one _ _ _ _ _ _ _ _ _ _ _ _ _ _ _ _ z c.play-played.ensures c.put_times.ensures c.put_compared-c.ensures.replies_after) i.rest;
+          (played_one _ _ _ _ _ _ _ _ _ _ _ _ _ _ _ _ z c.play-played.ensures c.put_times.ensures c.put_compared-c.ensures.replies_after) i.rest;
     }
 
 pub returns-clause-count_after : goal.returns-clause-count_after

@@ -15,7 +15,7 @@ invariant-loop-k l = record {
   same_times : length l.times ≡ length l.initial.times;
   same_replies : length l.replies ≡ length l.initial.replies;
   rest : run_desk l.board (drop l.k (take l.many l.records)) (desk_of l.cur (images_of l.flash l.flash_mask l.eeprom l.eeprom_mask) l.times l.replies (l.number + l.k) l.c)
-    ≡ run_desk l.board (take l.many l.records) (desk_of l.initial.cur (images_of l.initial.flash l.initial.flash_mask l.initial.eeprom l.initial.eeprom_mask) l.initial.times l.initial.replies l.number l.count);
+      ≡ run_desk l.board (take l.many l.records) (desk_of l.initial.cur (images_of l.initial.flash l.initial.flash_mask l.initial.eeprom l.initial.eeprom_mask) l.initial.times l.initial.replies l.number l.count);
 }
 
 abbrev pub decreases-loop-k : goal.decreases-loop-k

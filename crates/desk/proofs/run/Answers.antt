@@ -47,8 +47,8 @@ loop-place-preserved-then-j-eq1 c =
       same_times = omega arith;
       same_replies = omega arith;
       comes = comes_next _ _ _ _ _ _ c.requires _ _ _ _ _ _ _ i.comes c.loop-place-test.true _ c.judge_at-j.ensures g _ 1
-        (ap (λ (k : ℕ). min k most_in_all) (sym c.if-j-eq1.true))
-        (turned_alone _ c.judge_at-j.result.records _ _ _ long
+          (ap (λ (k : ℕ). min k most_in_all) (sym c.if-j-eq1.true))
+          (turned_alone _ c.judge_at-j.result.records _ _ _ long
           (played_one _ _ _ _ _ _ _ _ _ _ _ _ _ _ _ _ refl c.play-played.ensures c.put_times.ensures q.replies_after));
     }
 

@@ -15,7 +15,7 @@ invariant-loop-place l = record {
   same_times : length l.times ≡ length l.initial.times;
   same_replies : length l.replies ≡ length l.initial.replies;
   comes : ComesTo l.text l.first l.board (images_of l.initial.flash l.initial.flash_mask l.initial.eeprom l.initial.eeprom_mask) l.initial.times l.initial.replies l.place
-    (desk_of l.cur (images_of l.flash l.flash_mask l.eeprom l.eeprom_mask) l.times l.replies l.number l.count);
+      (desk_of l.cur (images_of l.flash l.flash_mask l.eeprom l.eeprom_mask) l.times l.replies l.number l.count);
 }
 
 abbrev pub decreases-loop-place : goal.decreases-loop-place
