@@ -3,17 +3,26 @@
 
 use files::File;
 
+// Room for a text and for what is printed. It is made apart, so that of it nothing is known but its length: no proof goes through its bytes.
+fn text_room() -> [u8; text::LIMIT + 1] {
+    [0u8; text::LIMIT + 1]
+}
+
+fn merge_room() -> [u8; printing::MERGE_ROOM] {
+    [0u8; printing::MERGE_ROOM]
+}
+
 fn main(rt: HostRuntime) {
     // One byte more than a text may have is enough to know that it is too long. A file that is missing has no bytes.
-    let mut levels = [0u8; text::LIMIT + 1];
+    let mut levels = text_room();
     let File::Read(_, levels_len) = files::load(&rt, "levels.tsv", &mut levels) else {
         return;
     };
-    let mut logger = [0u8; text::LIMIT + 1];
+    let mut logger = text_room();
     let File::Read(_, logger_len) = files::load(&rt, "logger.tsv", &mut logger) else {
         return;
     };
-    let mut out = [0u8; printing::MERGE_ROOM];
+    let mut out = merge_room();
     let done = printing::print_merge(&levels[..levels_len], &logger[..logger_len], &mut out);
     if !done.accepted {
         // Where this fails nobody is left to be told.
