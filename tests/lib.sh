@@ -96,17 +96,17 @@ build_library() {
   mkdir -p "$(dirname "$LIBRARY")" && quietly target/tests/library.log rt_in desk_c lib && cp crates/desk_c/out/libdesk_c.a "$LIBRARY"
 }
 
-# program NAME: where the program lies, once it is built.
-program() { echo "crates/$1/out/$1"; }
+# program_path NAME: where the program lies, once it is built.
+program_path() { echo "crates/$1/out/$1"; }
 
 # build_program NAME: a program, proved and built, unless it is younger than every file of the crates. `rt run` builds it, and
 # runs it once, in the crate's folder.
 build_program() {
-  built_since "$(program "$1")" crates crates.txt && return 0
+  built_since "$(program_path "$1")" crates crates.txt && return 0
   need_rt || return 1
-  rm -f "$(program "$1")"
+  rm -f "$(program_path "$1")"
   quietly "target/tests/$1.log" rt_in "$1" run || true
-  [ -e "$(program "$1")" ]
+  [ -e "$(program_path "$1")" ]
 }
 
 # run_program NAME EXAMPLE [FOLDER]: what tools/NAME does, from any folder: the program on the files of a folder, or of
@@ -120,10 +120,10 @@ run_program() {
   choose_runner || return 1
   (
     cd "$top" || exit 1
-    [ -e "$(program "$name")" ] || say "proving and building program $name; the first time this takes some minutes"
+    [ -e "$(program_path "$name")" ] || say "proving and building program $name; the first time this takes some minutes"
     build_program "$name"
   ) || return 1
-  cd "$folder" && exec "${RUN[@]}" "$top/$(program "$name")"
+  cd "$folder" && exec "${RUN[@]}" "$top/$(program_path "$name")"
 }
 
 # cargo_release PACKAGE WORD..: cargo on a package of tests/, for release, its files under target/.
