@@ -3,6 +3,8 @@
 // Lower-case hex digits type a byte; B starts a chip with that status, W watches that sector, S X C D E are `sel x cut des end`, N O L F `on off lock free`.
 #![tactic(auto)]
 
+ghost use Rattle.std.specs.Prelude.{◌≡◌, ◌≤◌, length, IfOk};
+
 use flash::{Flash, FlashCycle, FlashFrame, FlashStatus, LockFact, Op};
 use record::{FlashEvent, LineEvent, Lines, Skeleton};
 use std::io;
@@ -201,8 +203,32 @@ fn play<R: Print>(rt: &R, script: &[u8]) -> io::Result<()> {
     Ok(())
 }
 
+// The most bytes of a script that are read.
+const ROOM: usize = 65536;
+
+fn room() -> [u8; ROOM]
+    ensures { length result ≡ 65536 }
+{
+    [0; ROOM]
+}
+
+// Reads until the buffer is full or the input ends.
+fn read_full<R: Read>(from: &mut R, buf: &mut [u8]) -> io::Result<usize>
+    ensures { IfOk result (λ n. n ≤ length buf.new) }
+{
+    let mut n = 0;
+    while n < buf.len() {
+        let got = from.read(&mut buf[n..])?;
+        if got == 0 {
+            return Ok(n);
+        }
+        n += got;
+    }
+    Ok(n)
+}
+
 fn main(rt: HostRuntime) -> io::Result<()> {
-    let mut script = Vec::new(rt.alloc());
-    rt.reader().read_to_end(&mut script)?;
-    play(&rt, &script)
+    let mut script = room();
+    let n = read_full(&mut rt.reader(), &mut script)?;
+    play(&rt, &script[..n])
 }
