@@ -78,11 +78,9 @@ quietly() {
 
 LIBRARY=target/staticlib/libdesk.a
 
-# built_since FILE FOLDER..: whether the file is younger than every file of these, but for what rt makes of them.
+# built_since FILE: whether the file is younger than all that is proved; what rt leaves in out/ is none of it.
 built_since() {
-  local file=$1
-  shift
-  [ -e "$file" ] && [ -z "$(find "$@" -name out -prune -o -type f -newer "$file" -print -quit)" ]
+  [ -e "$1" ] && [ -z "$(find crates/*/src crates/*/specs crates/*/proofs crates.txt -newer "$1" -print -quit 2>/dev/null)" ]
 }
 
 # rt_in CRATE WORD..: what rt does in a crate's folder.
@@ -90,7 +88,7 @@ rt_in() { (cd "crates/$1" && shift && rt "$@" </dev/null); }
 
 # The proved library, an archive for C. It is proved and built anew unless it is younger than every file of the crates.
 build_library() {
-  built_since "$LIBRARY" crates crates.txt && return 0
+  built_since "$LIBRARY" && return 0
   need_rt || return 1
   rm -f "$LIBRARY"
   mkdir -p "$(dirname "$LIBRARY")" && quietly target/tests/library.log rt_in desk_c lib && cp crates/desk_c/out/libdesk_c.a "$LIBRARY"
@@ -102,7 +100,7 @@ program_path() { echo "crates/$1/out/$1"; }
 # build_program NAME: a program, proved and built, unless it is younger than every file of the crates. `rt run` builds it, and
 # runs it once, in the crate's folder.
 build_program() {
-  built_since "$(program_path "$1")" crates crates.txt && return 0
+  built_since "$(program_path "$1")" && return 0
   need_rt || return 1
   rm -f "$(program_path "$1")"
   quietly "target/tests/$1.log" rt_in "$1" run || true
