@@ -62,7 +62,7 @@ fn read_all<R: Read>(file: &mut R, buf: &mut [u8]) -> Taken
 }
 
 // A line on standard error: what failed, and why. Where this fails nobody is left to be told.
-pub fn report<R: Eprint>(rt: &R, what: &str, e: io::Error) {
+fn report<R: Eprint>(rt: &R, what: &str, e: io::Error) {
     let _ = eprintln!(rt; "{what}: {e}");
 }
 

@@ -30,6 +30,7 @@ fn main(rt: HostRuntime) {
         return;
     }
     if let Err(e) = rt.write_all(&out[..done.len]) {
-        files::report(&rt, "standard output", e);
+        // Where this fails nobody is left to be told.
+        let _ = eprintln!(rt; "standard output: {e}");
     }
 }

@@ -28,6 +28,7 @@ fn main(rt: HostRuntime) {
         &mut out,
     );
     if let Err(e) = rt.write_all(&out[..n]) {
-        files::report(&rt, "standard output", e);
+        // Where this fails nobody is left to be told.
+        let _ = eprintln!(rt; "standard output: {e}");
     }
 }
