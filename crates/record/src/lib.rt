@@ -4,7 +4,7 @@
 ghost use Rattle.std.specs.Prelude.{◌≡◌};
 ghost use Rattle.law.specs.Deciding.{Decides};
 ghost use Rattle.record.specs.Answers.{answer_number, plan_answer_number, levels_answer_number};
-ghost use Rattle.record.specs.Replies.{reply_kind, reply_value, reply_mask, match_number};
+ghost use Rattle.record.specs.Replies.{reply_kind, reply_value, reply_mask, match_number, reply_bytes};
 ghost use Rattle.record.specs.Status.{StatusOk};
 ghost use Rattle.record.specs.Skeletons.{skeleton_numbers};
 ghost use Rattle.record.specs.LineRules.{lines_after, lines_at_start, goes_off, lock_comes_on};
@@ -12,14 +12,14 @@ ghost use Rattle.record.specs.LineRules.{lines_after, lines_at_start, goes_off, 
 use law::Numbers;
 
 // The chips whose bytes are kept.
-#[derive(Clone, Copy)]
+#[derive(Clone, Copy, Debug, PartialEq, Eq)]
 pub enum Chip {
     Flash,
     Eeprom,
 }
 
 // Channel F. A byte goes each way: SI, then SO.
-#[derive(Clone, Copy)]
+#[derive(Clone, Copy, Debug, PartialEq, Eq)]
 pub enum FlashEvent {
     Select,
     Byte(u8, u8),
@@ -29,7 +29,7 @@ pub enum FlashEvent {
 }
 
 // Channel E. A byte comes with its acknowledge bit: true is 1, not acknowledged.
-#[derive(Clone, Copy)]
+#[derive(Clone, Copy, Debug, PartialEq, Eq)]
 pub enum EepromEvent {
     Start,
     Byte(u8, bool),
@@ -39,7 +39,7 @@ pub enum EepromEvent {
 }
 
 // Channel L.
-#[derive(Clone, Copy)]
+#[derive(Clone, Copy, Debug, PartialEq, Eq)]
 pub enum LineEvent {
     SupplyOn,
     SupplyOff,
@@ -47,21 +47,21 @@ pub enum LineEvent {
     LockOff,
 }
 
-#[derive(Clone, Copy)]
+#[derive(Clone, Copy, Debug, PartialEq, Eq)]
 pub enum Event {
     Flash(FlashEvent),
     Eeprom(EepromEvent),
     Line(LineEvent),
 }
 
-#[derive(Clone, Copy)]
+#[derive(Clone, Copy, Debug, PartialEq, Eq)]
 pub struct Record {
     pub stamp: u32,
     pub event: Event,
 }
 
 // Line 1 of a trace: the flash's status at the start, the watched sector, the EEPROM's wired address.
-#[derive(Clone, Copy)]
+#[derive(Clone, Copy, Debug, PartialEq, Eq)]
 pub struct Board {
     pub status: u8,
     pub sector: u8,
@@ -82,14 +82,14 @@ pub fn status_ok(status: u8) -> bool
 }
 
 // The common supply and the lock net.
-#[derive(Clone, Copy)]
+#[derive(Clone, Copy, Debug, PartialEq, Eq)]
 pub struct Lines {
     pub supply: bool,
     pub lock: bool,
 }
 
 // A chip's reply as far as its control knows it: a fetched byte is only told by its place.
-#[derive(Clone, Copy)]
+#[derive(Clone, Copy, Debug, PartialEq, Eq)]
 pub enum Skeleton {
     Silent,
     Given(u8),
@@ -102,7 +102,7 @@ pub enum Skeleton {
 }
 
 // A record's reply. A byte has a value and a mask of its doubtful bits.
-#[derive(Clone, Copy)]
+#[derive(Clone, Copy, Debug, PartialEq, Eq)]
 pub enum Reply {
     NotPlayed,
     Silent,
@@ -115,7 +115,7 @@ pub enum Reply {
 }
 
 // How a reply compares with what was recorded.
-#[derive(Clone, Copy)]
+#[derive(Clone, Copy, Debug, PartialEq, Eq)]
 pub enum Match {
     Nothing,
     Agrees,
@@ -190,7 +190,7 @@ pub const RESULT: usize = 16;
 pub const PLAN_RESULT: usize = 8;
 
 // What a replay answers.
-#[derive(Clone, Copy)]
+#[derive(Clone, Copy, Debug, PartialEq, Eq)]
 pub enum Answer {
     Settled,
     BadBuffers,
@@ -220,8 +220,27 @@ pub fn answer_number(a: Answer) -> u32
     }
 }
 
+// The paper's number of an answer.
+impl From<Answer> for u32 {
+    ghost from_gives = { λ a n. n ≡ answer_number a };
+
+    fn from(a: Answer) -> u32 {
+        match a {
+            Answer::Settled => 0,
+            Answer::BadBuffers => 1,
+            Answer::TooLong => 2,
+            Answer::BadLine => 3,
+            Answer::BackInTime => 4,
+            Answer::Impossible => 5,
+            Answer::Crowded => 6,
+            Answer::OrdersDiffer => 7,
+            Answer::StatusLost => 8,
+        }
+    }
+}
+
 // What a plan answers.
-#[derive(Clone, Copy)]
+#[derive(Clone, Copy, Debug, PartialEq, Eq)]
 pub enum PlanAnswer {
     Planned,
     Unfit,
@@ -241,8 +260,22 @@ pub fn plan_answer_number(a: PlanAnswer) -> u32
     }
 }
 
+// The paper's number of such an answer.
+impl From<PlanAnswer> for u32 {
+    ghost from_gives = { λ a n. n ≡ plan_answer_number a };
+
+    fn from(a: PlanAnswer) -> u32 {
+        match a {
+            PlanAnswer::Planned => 0,
+            PlanAnswer::Unfit => 14,
+            PlanAnswer::Locked => 15,
+            PlanAnswer::NoRoom => 16,
+        }
+    }
+}
+
 // What is answered to levels and a logger's trace beside 0 to 5.
-#[derive(Clone, Copy)]
+#[derive(Clone, Copy, Debug, PartialEq, Eq)]
 pub enum LevelsAnswer {
     BadLevel,
     Together,
@@ -257,6 +290,51 @@ pub fn levels_answer_number(a: LevelsAnswer) -> u32
         LevelsAnswer::BadLevel => 12,
         LevelsAnswer::Together => 13,
         LevelsAnswer::TooShort => 10,
+    }
+}
+
+// The paper's number of such an answer.
+impl From<LevelsAnswer> for u32 {
+    ghost from_gives = { λ a n. n ≡ levels_answer_number a };
+
+    fn from(a: LevelsAnswer) -> u32 {
+        match a {
+            LevelsAnswer::BadLevel => 12,
+            LevelsAnswer::Together => 13,
+            LevelsAnswer::TooShort => 10,
+        }
+    }
+}
+
+// The fourth byte of a reply.
+impl From<Match> for u8 {
+    ghost from_gives = { λ m n. n ≡ match_number m };
+
+    fn from(m: Match) -> u8 {
+        match m {
+            Match::Nothing => 0,
+            Match::Agrees => 1,
+            Match::Disagrees => 2,
+        }
+    }
+}
+
+impl Reply {
+    // Its four bytes: the kind, value and mask, which are 0 for other kinds than 2, and how it compares with what was recorded.
+    pub fn bytes(self, found: Match) -> [u8; 4]
+        ensures { result ≡ reply_bytes self found }
+    {
+        let (kind, value, mask) = match self {
+            Reply::NotPlayed => (0, 0, 0),
+            Reply::Silent => (1, 0, 0),
+            Reply::Byte(value, mask) => (2, value, mask),
+            Reply::Ack => (3, 0, 0),
+            Reply::NoAck => (4, 0, 0),
+            Reply::Starts => (5, 0, 0),
+            Reply::Ends => (6, 0, 0),
+            Reply::NoCycle => (7, 0, 0),
+        };
+        [kind, value, mask, u8::from(found)]
     }
 }
 
@@ -338,5 +416,5 @@ fn skeleton_numbers(s: Skeleton) -> Numbers
 pub fn same_skeleton(s: Skeleton, t: Skeleton) -> bool
     ensures { Decides result (s ≡ t) }
 {
-    law::same_numbers(skeleton_numbers(s), skeleton_numbers(t))
+    s == t
 }
