@@ -72,13 +72,7 @@ pub struct Board {
 pub fn status_ok(status: u8) -> bool
     ensures { Decides result (StatusOk status) }
 {
-    if status % 4 != 0 {
-        return false;
-    }
-    if (status / 16) % 8 != 0 {
-        return false;
-    }
-    true
+    status % 4 == 0 && status / 16 % 8 == 0
 }
 
 // The common supply and the lock net.
@@ -139,19 +133,19 @@ pub fn lines_after(lines: Lines, e: LineEvent) -> Lines
     match e {
         LineEvent::SupplyOn => Lines {
             supply: true,
-            lock: lines.lock,
+            ..lines
         },
         LineEvent::SupplyOff => Lines {
             supply: false,
-            lock: lines.lock,
+            ..lines
         },
         LineEvent::LockOn => Lines {
-            supply: lines.supply,
             lock: true,
+            ..lines
         },
         LineEvent::LockOff => Lines {
-            supply: lines.supply,
             lock: false,
+            ..lines
         },
     }
 }
@@ -160,24 +154,14 @@ pub fn lines_after(lines: Lines, e: LineEvent) -> Lines
 pub fn goes_off(lines: Lines, e: LineEvent) -> bool
     ensures { result ≡ goes_off lines e }
 {
-    match e {
-        LineEvent::SupplyOn => false,
-        LineEvent::SupplyOff => lines.supply,
-        LineEvent::LockOn => false,
-        LineEvent::LockOff => false,
-    }
+    lines.supply && e == LineEvent::SupplyOff
 }
 
 // Whether the lock comes on: where it is on already, nothing does.
 pub fn lock_comes_on(lines: Lines, e: LineEvent) -> bool
     ensures { result ≡ lock_comes_on lines e }
 {
-    match e {
-        LineEvent::SupplyOn => false,
-        LineEvent::SupplyOff => false,
-        LineEvent::LockOn => !lines.lock,
-        LineEvent::LockOff => false,
-    }
+    !lines.lock && e == LineEvent::LockOn
 }
 
 // How many bytes the replies take, four to a record, and the result.
