@@ -7,9 +7,9 @@ use mathlib.Core.Path.{◌≡◌, refl, sym, ap, ◌∙◌}
 use mathlib.Core.List.{List, ◌++◌}
 use lib.Dec.{eqb}
 use lib.ListN.{length, get_or}
+use Rattle.std.specs.Prelude.{Some, None}
 use Rattle.field.specs.Reads.{Stands}
 use Rattle.field.proofs.Reading.{none, one, by_inverse, stands_get_d, stands_length, stands_of}
-use Rattle.level.specs.declared.reader.ReadFlag.{ReadFlag}
 use Rattle.level.specs.Spelled.{level_digit}
 use Rattle.level.specs.Readers.{spelled_flag, ReadsFlag}
 
@@ -24,11 +24,11 @@ flag_law end false o rest = refl
 
 module _ (text : List ℕ) (at end : ℕ) where
   -- it is not there
-  pub flag_short : length text < at + 2 → ReadsFlag end text at ReadFlag.Bad
+  pub flag_short : length text < at + 2 → ReadsFlag end text at None
   unfolding spelled_flag
   flag_short h = none (λ a o s. let l = stands_length text (spelled_flag end a) at s (omega arith) in omega arith)
 
-  pub flag_end : (get_or text (at + 1) 0 ≡ end → ⊥) → ReadsFlag end text at ReadFlag.Bad
+  pub flag_end : (get_or text (at + 1) 0 ≡ end → ⊥) → ReadsFlag end text at None
   unfolding spelled_flag
   flag_end m = none (λ a o s. m (stands_get_d text (spelled_flag end a) at s 1 (omega arith)))
 
@@ -36,7 +36,7 @@ module _ (text : List ℕ) (at end : ℕ) where
   unfolding spelled_flag
   digit a s = ap (λ (k : ℕ). get_or text k 0) (sym (add-zero at)) ∙ stands_get_d text (spelled_flag end a) at s 0 (omega arith)
 
-  pub flag_digit : (get_or text at 0 ≡ 48 → ⊥) → (get_or text at 0 ≡ 49 → ⊥) → ReadsFlag end text at ReadFlag.Bad
+  pub flag_digit : (get_or text at 0 ≡ 48 → ⊥) → (get_or text at 0 ≡ 49 → ⊥) → ReadsFlag end text at None
   flag_digit m n = none nothing
     where
       nothing : (a : Bool) → Unit {0} → Stands text at (spelled_flag end a) → ⊥
@@ -44,7 +44,7 @@ module _ (text : List ℕ) (at end : ℕ) where
       nothing true o s = n (digit true s)
 
   -- it is
-  pub flag_is : (a : Bool) → at + 2 ≤ length text → get_or text (at + 1) 0 ≡ end → get_or text at 0 ≡ level_digit a → ReadsFlag end text at (ReadFlag.Value a (record { at = at + 2 }))
+  pub flag_is : (a : Bool) → at + 2 ≤ length text → get_or text (at + 1) 0 ≡ end → get_or text at 0 ≡ level_digit a → ReadsFlag end text at (Some (a, record { at = at + 2 }))
   unfolding spelled_flag
   flag_is a h e d = one a (at + 2) tt stands refl (by_inverse (spelled_flag end) (λ _. Unit {0}) flag_at (flag_law end) a tt stands)
     where

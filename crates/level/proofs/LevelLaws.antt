@@ -1,8 +1,10 @@
 -- A level line's parts, one after another.
 use Prim.Native.Nat.{ℕ}
 use mathlib.Core.Bool.{Bool}
-use mathlib.Core.Path.{◌≡◌, refl, sym}
+use mathlib.Core.Path.{◌≡◌, refl, sym, ap}
 use mathlib.Core.List.{List, [], ◌++◌, append-nil, append_assoc}
+use Rattle.std.specs.Prelude.{Option, Some, None}
+use Rattle.field.specs.declared.Cursor.{Cursor}
 use Rattle.field.specs.Ends.{tab_byte, lf_byte, tab}
 use Rattle.field.specs.Decimal.{decimal}
 use Rattle.field.proofs.Reading.{Tells, Got, seq_end}
@@ -10,26 +12,22 @@ use Rattle.field.proofs.Answers.{zero_one, at_same, No}
 use Rattle.level.specs.declared.Spi.{Spi}
 use Rattle.level.specs.declared.Wires.{Wires}
 use Rattle.level.specs.declared.Level.{Level}
-use Rattle.level.specs.declared.reader.ReadFlag.{ReadFlag}
-use Rattle.level.specs.declared.reader.ReadSpi.{ReadSpi}
-use Rattle.level.specs.declared.reader.ReadWires.{ReadWires}
-use Rattle.level.specs.declared.reader.ReadLevel.{ReadLevel}
 use Rattle.level.specs.Spelled.{spelled_spi, spelled_wires, spelled_level, ReadsLevel}
 use Rattle.level.specs.Readers.{spelled_flag, ReadsSpi, ReadsWires}
 use Rattle.level.proofs.Parts.{seq_none, seq_then}
 use Rattle.level.proofs.StampLaws.{Small, spelled_stamp, GotStamp}
 
-pub tells_flag : Tells {A = Bool} (λ a p. ReadFlag.Value a (record { at = p })) ReadFlag.Bad
-tells_flag = record { apart = λ x p e. zero_one (cc); same = λ x y p q e. (cc, at_same (cc)) }
+-- each reader's answer is an option of a value and the next place
+pub tells_some : {A : Type 0} → Tells {A = A} {R = Option (A × Cursor)} (λ x p. Some (x, record { at = p })) None
+tells_some {A} = record {
+  apart = λ x p e. zero_one (cc);
+  same = λ x y p q e.
+      let pairs : ◌≡◌ {A = A × Cursor} (x, record { at = p }) (y, record { at = q }) = cc in
+      (ap (λ (z : A × Cursor). z.0) pairs, at_same (ap (λ (z : A × Cursor). z.1) pairs));
+}
 
-pub tells_spi : Tells {A = Spi} (λ x p. ReadSpi.Value x (record { at = p })) ReadSpi.Bad
-tells_spi = record { apart = λ x p e. zero_one (cc); same = λ x y p q e. (cc, at_same (cc)) }
-
-pub tells_wires : Tells {A = Wires} (λ x p. ReadWires.Value x (record { at = p })) ReadWires.Bad
-tells_wires = record { apart = λ x p e. zero_one (cc); same = λ x y p q e. (cc, at_same (cc)) }
-
-pub tells_level : Tells {A = Level} (λ x p. ReadLevel.Value x (record { at = p })) ReadLevel.Bad
-tells_level = record { apart = λ x p e. zero_one (cc); same = λ x y p q e. (cc, at_same (cc)) }
+pub tells_level : Tells {A = Level} {R = Option (Level × Cursor)} (λ x p. Some (x, record { at = p })) None
+tells_level = tells_some
 
 abbrev pub Any : {A : Type 0} → A → Type 0
 Any _ = Unit {0}
@@ -61,22 +59,22 @@ unfolding spelled_spi spelled_flag
 spi_parts x = refl
 
 module _ {text : List ℕ} {at : ℕ} where
-  pub spi_1 : NoFlag tab_byte text at → ReadsSpi text at ReadSpi.Bad
+  pub spi_1 : NoFlag tab_byte text at → ReadsSpi text at None
   spi_1 n = seq_none (λ (x : Spi). x.cs) after1 spi_parts (λ x o. tt) n
 
   module _ {cs : Bool} {p1 : ℕ} (g1 : GotFlag tab_byte text at cs p1) where
-    pub spi_2 : NoFlag tab_byte text p1 → ReadsSpi text at ReadSpi.Bad
+    pub spi_2 : NoFlag tab_byte text p1 → ReadsSpi text at None
     spi_2 n = seq_then (λ (x : Spi). x.cs) after1 spi_parts (λ x o. tt) g1 (seq_none (λ (x : Spi). x.sck) after2 (λ x. refl) (λ x o. tt) n)
 
     module _ {sck : Bool} {p2 : ℕ} (g2 : GotFlag tab_byte text p1 sck p2) where
-      pub spi_3 : NoFlag tab_byte text p2 → ReadsSpi text at ReadSpi.Bad
+      pub spi_3 : NoFlag tab_byte text p2 → ReadsSpi text at None
       spi_3 n =
           seq_then (λ (x : Spi). x.cs) after1 spi_parts (λ x o. tt) g1
           (seq_then (λ (x : Spi). x.sck) after2 (λ x. refl) (λ x o. tt) g2
           (seq_none (λ (x : Spi). x.si) after3 (λ x. refl) (λ x o. tt) n))
 
       module _ {si : Bool} {p3 : ℕ} (g3 : GotFlag tab_byte text p2 si p3) where
-        pub spi_4 : NoFlag tab_byte text p3 → ReadsSpi text at ReadSpi.Bad
+        pub spi_4 : NoFlag tab_byte text p3 → ReadsSpi text at None
         spi_4 n =
             seq_then (λ (x : Spi). x.cs) after1 spi_parts (λ x o. tt) g1
             (seq_then (λ (x : Spi). x.sck) after2 (λ x. refl) (λ x o. tt) g2
@@ -84,7 +82,7 @@ module _ {text : List ℕ} {at : ℕ} where
             (seq_none (λ (x : Spi). x.so) after4 (λ x. refl) (λ x o. tt) n)))
 
         module _ {so : Bool} {p4 : ℕ} (g4 : GotFlag tab_byte text p3 so p4) where
-          pub spi_5 : NoFlag tab_byte text p4 → ReadsSpi text at ReadSpi.Bad
+          pub spi_5 : NoFlag tab_byte text p4 → ReadsSpi text at None
           spi_5 n =
               seq_then (λ (x : Spi). x.cs) after1 spi_parts (λ x o. tt) g1
               (seq_then (λ (x : Spi). x.sck) after2 (λ x. refl) (λ x o. tt) g2
@@ -93,7 +91,7 @@ module _ {text : List ℕ} {at : ℕ} where
               (seq_none (λ (x : Spi). x.hold) (λ x. []) (λ x. sym (append-nil (flag x.hold))) (λ x o. tt) n))))
 
           pub spi_all : {hold : Bool} {p5 : ℕ} → GotFlag tab_byte text p4 hold p5 →
-              ReadsSpi text at (ReadSpi.Value (record { cs = cs; sck = sck; si = si; so = so; hold = hold }) (record { at = p5 }))
+              ReadsSpi text at (Some (record { cs = cs; sck = sck; si = si; so = so; hold = hold }, record { at = p5 }))
           spi_all {hold} g5 =
               seq_then (λ (x : Spi). x.cs) after1 spi_parts (λ x o. tt) g1
               (seq_then (λ (x : Spi). x.sck) after2 (λ x. refl) (λ x o. tt) g2
@@ -112,16 +110,16 @@ unfolding spelled_wires spelled_flag
 wires_parts x = refl
 
 module _ {text : List ℕ} {at : ℕ} where
-  pub wires_1 : NoFlag tab_byte text at → ReadsWires text at ReadWires.Bad
+  pub wires_1 : NoFlag tab_byte text at → ReadsWires text at None
   wires_1 n = seq_none (λ (x : Wires). x.scl) last wires_parts (λ x o. tt) n
 
   module _ {scl : Bool} {p1 : ℕ} (g1 : GotFlag tab_byte text at scl p1) where
-    pub wires_2 : NoFlag lf_byte text p1 → ReadsWires text at ReadWires.Bad
+    pub wires_2 : NoFlag lf_byte text p1 → ReadsWires text at None
     wires_2 n =
         seq_then (λ (x : Wires). x.scl) last wires_parts (λ x o. tt) g1
         (seq_none (λ (x : Wires). x.sda) (λ x. []) (λ x. sym (append-nil (last x))) (λ x o. tt) n)
 
-    pub wires_all : {sda : Bool} {p2 : ℕ} → GotFlag lf_byte text p1 sda p2 → ReadsWires text at (ReadWires.Value (record { scl = scl; sda = sda }) (record { at = p2 }))
+    pub wires_all : {sda : Bool} {p2 : ℕ} → GotFlag lf_byte text p1 sda p2 → ReadsWires text at (Some (record { scl = scl; sda = sda }, record { at = p2 }))
     wires_all {sda} g2 =
         seq_then (λ (x : Wires). x.scl) last wires_parts (λ x o. tt) g1
         (seq_then (λ (x : Wires). x.sda) (λ x. []) (λ x. sym (append-nil (last x))) (λ x o. tt) g2
@@ -136,24 +134,24 @@ unfolding spelled_level spelled_stamp
 level_parts x = sym (append_assoc (decimal x.stamp) tab (pins x))
 
 module _ {text : List ℕ} {at : ℕ} where
-  pub level_1 : No spelled_stamp Small text at → ReadsLevel text at ReadLevel.Bad
+  pub level_1 : No spelled_stamp Small text at → ReadsLevel text at None
   level_1 n = seq_none (λ (x : Level). x.stamp) pins level_parts (λ x o. o) n
 
   module _ {stamp p1 : ℕ} (g1 : GotStamp text at stamp p1) where
-    pub level_2 : No spelled_spi Any text p1 → ReadsLevel text at ReadLevel.Bad
+    pub level_2 : No spelled_spi Any text p1 → ReadsLevel text at None
     level_2 n =
         seq_then (λ (x : Level). x.stamp) pins level_parts (λ x o. o) g1
         (seq_none (λ (x : Level). x.spi) (λ x. spelled_wires x.wires) (λ x. refl) (λ x o. tt) n)
 
     module _ {spi : Spi} {p2 : ℕ} (g2 : Got spelled_spi Any text p1 spi p2) where
-      pub level_3 : No spelled_wires Any text p2 → ReadsLevel text at ReadLevel.Bad
+      pub level_3 : No spelled_wires Any text p2 → ReadsLevel text at None
       level_3 n =
           seq_then (λ (x : Level). x.stamp) pins level_parts (λ x o. o) g1
           (seq_then (λ (x : Level). x.spi) (λ x. spelled_wires x.wires) (λ x. refl) (λ x o. tt) g2
           (seq_none (λ (x : Level). x.wires) (λ x. []) (λ x. sym (append-nil (spelled_wires x.wires))) (λ x o. tt) n))
 
       pub level_all : {wires : Wires} {p3 : ℕ} → Got spelled_wires Any text p2 wires p3 →
-          ReadsLevel text at (ReadLevel.Value (record { stamp = stamp; spi = spi; wires = wires }) (record { at = p3 }))
+          ReadsLevel text at (Some (record { stamp = stamp; spi = spi; wires = wires }, record { at = p3 }))
       level_all {wires} g3 =
           seq_then (λ (x : Level). x.stamp) pins level_parts (λ x o. o) g1
           (seq_then (λ (x : Level). x.spi) (λ x. spelled_wires x.wires) (λ x. refl) (λ x o. tt) g2

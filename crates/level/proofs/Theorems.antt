@@ -7,7 +7,9 @@ use mathlib.Core.Path.{◌≡◌, refl, sym, ap, subst, ◌∙◌}
 use mathlib.Core.List.{List, [], ◌∷◌, ◌++◌}
 use lib.Dec.{eqb}
 use lib.ListN.{length, get_or, length-append}
+use Rattle.std.specs.Prelude.{Option}
 use Rattle.law.specs.Choice.{lt_or_le}
+use Rattle.field.specs.declared.Cursor.{Cursor}
 use Rattle.field.specs.Ends.{tab}
 use Rattle.field.specs.Decimal.{decimal, digits_value}
 use Rattle.field.specs.Reads.{Stands}
@@ -18,13 +20,12 @@ use Rattle.field.proofs.SpellingLaws.{decimal_split, decimal_last}
 use Rattle.level.specs.declared.Spi.{Spi}
 use Rattle.level.specs.declared.Wires.{Wires}
 use Rattle.level.specs.declared.Level.{Level}
-use Rattle.level.specs.declared.reader.ReadLevel.{ReadLevel}
 use Rattle.level.specs.Spelled.{level_digit, spelled_spi, spelled_wires, spelled_level, ReadsLevel}
 use Rattle.level.proofs.StampLaws.{spelled_stamp, stamp_content}
 use Rattle.level.proofs.LevelLaws.{Any, tells_level, pins, level_parts}
 
 -- any two answers that the promise of `read_level` admits are equal
-pub level_determined : (text : List ℕ) (at : ℕ) (r r' : ReadLevel) → ReadsLevel text at r → ReadsLevel text at r' → r ≡ r'
+pub level_determined : (text : List ℕ) (at : ℕ) (r r' : Option (Level × Cursor)) → ReadsLevel text at r → ReadsLevel text at r' → r ≡ r'
 level_determined text at = determined tells_level
 
 -- one decimal has a spelling

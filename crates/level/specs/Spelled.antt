@@ -1,12 +1,12 @@
 -- Believed: A level line (document 02, request 4/12: 'each line has a stamp, then CS, SCK, SI, SO, HOLD, SCL, SDA, each 0 or 1'); fields, stamp and LF as in a trace.
-use Rattle.std.specs.Prelude.{ℕ, ◌≤◌, Bool, true, false, List, [], ◌∷◌, ◌++◌}
+use Rattle.std.specs.Prelude.{ℕ, ◌≤◌, Bool, true, false, Option, Some, None, List, [], ◌∷◌, ◌++◌}
 use Rattle.field.specs.Ends.{tab_byte, lf_byte, tab}
 use Rattle.field.specs.Decimal.{largest, decimal}
+use Rattle.field.specs.declared.Cursor.{Cursor}
 use Rattle.field.specs.Reads.{Reads}
 use Rattle.level.specs.declared.Spi.{Spi}
 use Rattle.level.specs.declared.Wires.{Wires}
 use Rattle.level.specs.declared.Level.{Level}
-use Rattle.level.specs.declared.reader.ReadLevel.{ReadLevel}
 
 -- the digit of a level
 abbrev pub level_digit : Bool → ℕ
@@ -31,5 +31,5 @@ abbrev pub LevelOk : Level → Type 0
 LevelOk l = l.stamp ≤ largest
 
 -- what the reader of a level line promises
-abbrev pub ReadsLevel : List ℕ → ℕ → ReadLevel → Type 0
-ReadsLevel = Reads spelled_level LevelOk (λ x p. ReadLevel.Value x (record { at = p })) ReadLevel.Bad
+abbrev pub ReadsLevel : List ℕ → ℕ → Option (Level × Cursor) → Type 0
+ReadsLevel = Reads spelled_level LevelOk (λ x p. Some (x, record { at = p })) None

@@ -1,16 +1,15 @@
 // One line of the analyser's capture (document 02, request 4/12): a stamp, then the levels of CS, SCK, SI, SO, HOLD, SCL and SDA; and what two lines in turn must not show.
 #![tactic(auto)]
 
-ghost use Rattle.std.specs.Prelude.{◌≡◌, true, false};
-ghost use Rattle.law.specs.Words.{pick};
+ghost use Rattle.std.specs.Prelude.{◌≡◌};
 ghost use Rattle.level.specs.Rest.{falls, rises, changes, resting, spi_clash, wires_clash, clash};
 
 mod reader;
 
-pub use reader::{ReadLevel, read_level};
+pub use reader::read_level;
 
 // The flash's four lines, and HOLD.
-#[derive(Clone, Copy)]
+#[derive(Clone, Copy, Debug, PartialEq, Eq)]
 pub struct Spi {
     pub cs: bool,
     pub sck: bool,
@@ -20,13 +19,13 @@ pub struct Spi {
 }
 
 // The two wires of the EEPROM.
-#[derive(Clone, Copy)]
+#[derive(Clone, Copy, Debug, PartialEq, Eq)]
 pub struct Wires {
     pub scl: bool,
     pub sda: bool,
 }
 
-#[derive(Clone, Copy)]
+#[derive(Clone, Copy, Debug, PartialEq, Eq)]
 pub struct Level {
     pub stamp: u32,
     pub spi: Spi,
@@ -37,96 +36,46 @@ pub struct Level {
 pub fn falls(a: bool, b: bool) -> bool
     ensures { result ≡ falls a b }
 {
-    if a {
-        if b {
-            return false;
-        }
-        return true;
-    }
-    false
+    a && !b
 }
 
 // From 0 on one line to 1 on the next.
 pub fn rises(a: bool, b: bool) -> bool
     ensures { result ≡ rises a b }
 {
-    if a {
-        return false;
-    }
-    b
+    !a && b
 }
 
 fn changes(a: bool, b: bool) -> bool
     ensures { result ≡ changes a b }
 {
-    if falls(a, b) {
-        return true;
-    }
-    rises(a, b)
-}
-
-// What the first line must show of the wires and of SCK.
-fn wires_rest(w: Wires, sck: bool) -> bool
-    ensures { result ≡ pick w.scl (pick w.sda (pick sck false true) false) false }
-{
-    if w.scl {
-        if w.sda {
-            if sck {
-                return false;
-            }
-            return true;
-        }
-        return false;
-    }
-    false
+    a != b
 }
 
 // Whether both buses rest: CS, HOLD, SCL and SDA at 1, SCK at 0.
 pub fn rests(l: Level) -> bool
     ensures { result ≡ resting l }
 {
-    let spi = l.spi;
-    if spi.cs {
-        if spi.hold {
-            return wires_rest(l.wires, spi.sck);
-        }
-        return false;
-    }
-    false
+    l.spi.cs && l.spi.hold && l.wires.scl && l.wires.sda && !l.spi.sck
 }
 
 // Whether SCK changes together with CS, SI or HOLD.
 fn spi_clashes(a: Spi, b: Spi) -> bool
     ensures { result ≡ spi_clash a b }
 {
-    if changes(a.sck, b.sck) {
-        if changes(a.cs, b.cs) {
-            return true;
-        }
-        if changes(a.si, b.si) {
-            return true;
-        }
-        return changes(a.hold, b.hold);
-    }
-    false
+    changes(a.sck, b.sck) && (changes(a.cs, b.cs) || changes(a.si, b.si) || changes(a.hold, b.hold))
 }
 
 // Whether SCL changes together with SDA.
 fn wires_clash(a: Wires, b: Wires) -> bool
     ensures { result ≡ wires_clash a b }
 {
-    if changes(a.scl, b.scl) {
-        return changes(a.sda, b.sda);
-    }
-    false
+    changes(a.scl, b.scl) && changes(a.sda, b.sda)
 }
 
 // Refusal 13, of one line and the next.
 pub fn clashes(a: Level, b: Level) -> bool
     ensures { result ≡ clash a b }
 {
-    if spi_clashes(a.spi, b.spi) {
-        return true;
-    }
-    wires_clash(a.wires, b.wires)
+    spi_clashes(a.spi, b.spi) || wires_clash(a.wires, b.wires)
 }

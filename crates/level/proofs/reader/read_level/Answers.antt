@@ -1,6 +1,6 @@
-use Rattle.field.proofs.Reading.{got_none, got_one}
+use Rattle.field.proofs.Reading.{got_none, got_one, as_told}
 use Rattle.field.proofs.Answers.{tells_decimal, tells_end}
-use Rattle.level.proofs.LevelLaws.{tells_spi, tells_wires, level_1, level_2, level_3, level_all}
+use Rattle.level.proofs.LevelLaws.{tells_some, level_1, level_2, level_3, level_all}
 use Rattle.level.proofs.StampLaws.{stamp_none, stamp_no_tab, stamp_got}
 use Rattle.level.proofs.reader.read_level.Goals as goal
 
@@ -14,22 +14,24 @@ returns-in_default-read_end c =
     (got_one tells_decimal c.read_decimal.ensures _ _ c.in-Value.is)
     (got_none tells_end c.read_end.ensures c.in_default-read_end.is))
 
-pub returns-in_default-read_spi : goal.returns-in_default-read_spi
-returns-in_default-read_spi c =
-    level_2
+pub returns-in_err-spi : goal.returns-in_err-spi
+returns-in_err-spi c =
+    as_told c.from_residual.ensures
+    (level_2
     (stamp_got
     (got_one tells_decimal c.read_decimal.ensures _ _ c.in-Value.is)
     (got_one tells_end c.read_end.ensures tt _ c.in-Here.is))
-    (got_none tells_spi c.read_spi.ensures c.in_default-read_spi.is)
+    (got_none tells_some c.read_spi.ensures c.in_err-spi.was))
 
-pub returns-in_default-read_wires : goal.returns-in_default-read_wires
-returns-in_default-read_wires c =
-    level_3
+pub returns-in_err-wires : goal.returns-in_err-wires
+returns-in_err-wires c =
+    as_told c.from_residual-in_err-wires.ensures
+    (level_3
     (stamp_got
     (got_one tells_decimal c.read_decimal.ensures _ _ c.in-Value.is)
     (got_one tells_end c.read_end.ensures tt _ c.in-Here.is))
-    (got_one tells_spi c.read_spi.ensures _ _ c.in-Value-read_spi.is)
-    (got_none tells_wires c.read_wires.ensures c.in_default-read_wires.is)
+    (got_one tells_some c.read_spi.ensures _ _ c.in_ok-spi.was)
+    (got_none tells_some c.read_wires.ensures c.in_err-wires.was))
 
 pub returns : goal.returns
 returns c =
@@ -37,5 +39,5 @@ returns c =
     (stamp_got
     (got_one tells_decimal c.read_decimal.ensures _ _ c.in-Value.is)
     (got_one tells_end c.read_end.ensures tt _ c.in-Here.is))
-    (got_one tells_spi c.read_spi.ensures _ _ c.in-Value-read_spi.is)
-    (got_one tells_wires c.read_wires.ensures _ _ c.in-Value-read_wires.is)
+    (got_one tells_some c.read_spi.ensures _ _ c.in_ok-spi.was)
+    (got_one tells_some c.read_wires.ensures _ _ c.in_ok-wires.was)
