@@ -4,13 +4,8 @@ use native.Mathlib.Omega.{arith}
 use mathlib.Core.Path.{◌≡◌, refl, ap}
 use mathlib.Core.List.{List}
 use Rattle.field.specs.declared.Cursor.{Cursor}
-use Rattle.field.specs.declared.decimal.ReadDecimal.{ReadDecimal}
-use Rattle.field.specs.declared.hex.ReadHex.{ReadHex}
-use Rattle.field.specs.declared.word.ReadWord.{ReadWord}
-use Rattle.field.specs.declared.digit.ReadDigit.{ReadDigit}
-use Rattle.field.specs.declared.ending.ReadEnd.{ReadEnd}
 use Rattle.field.specs.Reads.{Stands}
-use Rattle.field.specs.Readers.{content_at}
+use Rattle.field.specs.Readers.{got, past, bad_field, content_at}
 use Rattle.field.proofs.Reading.{Tells, Got}
 
 pub zero_one : ◌≡◌ {A = ℕ} 0 1 → ⊥
@@ -22,20 +17,11 @@ at_same e = ap (λ (k : Cursor). k.at) e
 pub both_same : {A B : Type 0} {x y : A × B} → x.0 ≡ y.0 → x.1 ≡ y.1 → x ≡ y
 both_same e f = λ i. (e i, f i)
 
-pub tells_decimal : {k : ℕ} → Tells {A = ℕ} (λ n p. ReadDecimal.Value n (record { at = p })) (ReadDecimal.Bad k)
-tells_decimal = record { apart = λ x p e. zero_one (cc); same = λ x y p q e. (cc, at_same (cc)) }
+pub tells_got : {T : Type 0} {k : ℕ} → Tells {A = T} got (bad_field k)
+tells_got {T} = record { apart = λ x p e. zero_one (cc); same = λ x y p q e. let z : (x, record { at = p }) ≡ (y, record { at = q }) = cc in (ap (λ (w : T × Cursor). w.0) z, at_same (ap (λ (w : T × Cursor). w.1) z)) }
 
-pub tells_hex : {k : ℕ} → Tells {A = ℕ} (λ n p. ReadHex.Value n (record { at = p })) (ReadHex.Bad k)
-tells_hex = record { apart = λ x p e. zero_one (cc); same = λ x y p q e. (cc, at_same (cc)) }
-
-pub tells_word : {k : ℕ} → Tells {A = Unit {0}} (λ _ p. ReadWord.Here (record { at = p })) (ReadWord.Bad k)
-tells_word = record { apart = λ x p e. zero_one (cc); same = λ x y p q e. (refl, at_same (cc)) }
-
-pub tells_digit : {k : ℕ} → Tells {A = ℕ} (λ d p. ReadDigit.Value d (record { at = p })) (ReadDigit.Bad k)
-tells_digit = record { apart = λ x p e. zero_one (cc); same = λ x y p q e. (cc, at_same (cc)) }
-
-pub tells_end : {k : ℕ} → Tells {A = Unit {0}} (λ _ p. ReadEnd.Here (record { at = p })) (ReadEnd.Bad k)
-tells_end = record { apart = λ x p e. zero_one (cc); same = λ x y p q e. (refl, at_same (cc)) }
+pub tells_past : {k : ℕ} → Tells {A = Unit {0}} (λ _. past) (bad_field k)
+tells_past = record { apart = λ x p e. zero_one (cc); same = λ x y p q e. (refl, at_same (cc)) }
 
 -- nothing of a kind stands here
 abbrev pub No : {A : Type 0} → (A → List ℕ) → (A → Type 0) → List ℕ → ℕ → Type 0

@@ -10,8 +10,7 @@ use lib.Dec.{ltb, leb}
 use lib.Arith.{digits_div, digits_mod}
 use lib.ListN.{length, get_or}
 use borrow.Author.Tests.{lt-ltb, le-ltb, le-leb, lt-leb, ltb-true, ltb-false, leb-true}
-use Rattle.field.specs.declared.hex.Nibble.{Nibble}
-use Rattle.field.specs.declared.hex.Nibble.TheVariants.{Value, Bad}
+use Rattle.std.specs.Prelude.{Option, None, Some}
 use Rattle.law.specs.Choice.{pick_says, lt_or_le, both}
 use Rattle.law.specs.Words.{pick}
 use Rattle.field.specs.Ends.{tab_byte, lf_byte}
@@ -22,20 +21,20 @@ use Rattle.field.proofs.Reading.{Got, stands_get_d, stands_length, stands_of}
 use Rattle.field.proofs.Answers.{No}
 use Rattle.field.proofs.FieldLaws.{Plain, Tests, spells_tests}
 
-nibble_digit : (d : ℕ) → d < 16 → nibble_of (hex_digit d) ≡ Value d
+nibble_digit : (d : ℕ) → d < 16 → nibble_of (hex_digit d) ≡ Some d
 unfolding hex_digit
 nibble_digit d h =
     ⊎_elim (λ (p : d < 10). simp (lt-ltb d 10 p, le-ltb (48 + d) 48 (omega arith), le-leb (48 + d) 57 (omega arith), add-sub_cancel_left 48 d))
     (λ (p : 10 ≤ d). simp (le-ltb d 10 p, le-ltb (87 + d) 48 (omega arith), lt-leb (87 + d) 57 (omega arith), le-ltb (87 + d) 97 (omega arith), le-leb (87 + d) 102 (omega arith), add-sub_cancel_left 87 d))
     (lt_or_le d 10)
 
-never : {w : ℕ} → Bad ≡ Value w → ⊥
+never : {w : ℕ} → None ≡ Some w → ⊥
 never q = let z : ◌≡◌ {A = ℕ} 0 1 = cc in omega arith
 
-value : {v w : ℕ} → Value v ≡ Value w → v ≡ w
+value : {v w : ℕ} → Some v ≡ Some w → v ≡ w
 value q = cc
 
-nibble_says : (b d : ℕ) → nibble_of b ≡ Value d → (d < 16) × (b ≡ hex_digit d)
+nibble_says : (b d : ℕ) → nibble_of b ≡ Some d → (d < 16) × (b ≡ hex_digit d)
 unfolding hex_digit
 nibble_says b d e =
     ⊎_elim (λ z. absurd (never z.1))
@@ -50,11 +49,11 @@ nibble_says b d e =
 
 -- the two digits of a spelled byte, as the text has them
 module _ (text : List ℕ) (at : ℕ) where
-  high : (x : ℕ) → x < 256 → Stands text at (hex_field x) → nibble_of (get_or text at 0) ≡ Value (x / 16)
+  high : (x : ℕ) → x < 256 → Stands text at (hex_field x) → nibble_of (get_or text at 0) ≡ Some (x / 16)
   unfolding hex_field
   high x h s = ap nibble_of (ap (λ (k : ℕ). get_or text k 0) (sym (add-zero at)) ∙ stands_get_d text (hex_field x) at s 0 (omega arith)) ∙ nibble_digit (x / 16) (omega arith)
 
-  low : (x : ℕ) → x < 256 → Stands text at (hex_field x) → nibble_of (get_or text (at + 1) 0) ≡ Value (x % 16)
+  low : (x : ℕ) → x < 256 → Stands text at (hex_field x) → nibble_of (get_or text (at + 1) 0) ≡ Some (x % 16)
   unfolding hex_field
   low x h s = ap nibble_of (stands_get_d text (hex_field x) at s 1 (omega arith)) ∙ nibble_digit (x % 16) (omega arith)
 
@@ -62,13 +61,13 @@ module _ (text : List ℕ) (at : ℕ) where
   unfolding hex_field
   hex_short h x o s = let l = stands_length text (hex_field x) at s (omega arith) in omega arith
 
-  pub hex_high : nibble_of (get_or text at 0) ≡ Bad → No hex_field (λ n. n < 256) text at
+  pub hex_high : nibble_of (get_or text at 0) ≡ None → No hex_field (λ n. n < 256) text at
   hex_high e x o s = never (sym e ∙ high x o s)
 
-  pub hex_low : nibble_of (get_or text (at + 1) 0) ≡ Bad → No hex_field (λ n. n < 256) text at
+  pub hex_low : nibble_of (get_or text (at + 1) 0) ≡ None → No hex_field (λ n. n < 256) text at
   hex_low e x o s = never (sym e ∙ low x o s)
 
-  pub hex_both : (a b : ℕ) → at + 2 ≤ length text → nibble_of (get_or text at 0) ≡ Value a → nibble_of (get_or text (at + 1) 0) ≡ Value b → Got hex_field (λ n. n < 256) text at (a * 16 + b) (at + 2)
+  pub hex_both : (a b : ℕ) → at + 2 ≤ length text → nibble_of (get_or text at 0) ≡ Some a → nibble_of (get_or text (at + 1) 0) ≡ Some b → Got hex_field (λ n. n < 256) text at (a * 16 + b) (at + 2)
   unfolding hex_field
   hex_both a b h p q =
       let m = nibble_says (get_or text at 0) a p in
@@ -85,13 +84,13 @@ module _ (text : List ℕ) (at : ℕ) where
       bytes m n (suc zero) l = rw (digits_mod a n.0) n.1
       bytes m n (suc (suc i)) l = absurd (omega arith)
 
-pub nibble_small : (b d : ℕ) → nibble_of b ≡ Value d → d < 16
+pub nibble_small : (b d : ℕ) → nibble_of b ≡ Some d → d < 16
 nibble_small b d e = (nibble_says b d e).0
 
 -- the byte that two hex digits spell
-unfoldable pub digit_of : Nibble → ℕ
-digit_of (Value d) = d
-digit_of Bad = 0
+unfoldable pub digit_of : Option ℕ → ℕ
+digit_of (Some d) = d
+digit_of None = 0
 
 unfoldable pub unhex : ℕ → ℕ → ℕ
 unhex a b = digit_of (nibble_of a) * 16 + digit_of (nibble_of b)
@@ -140,7 +139,7 @@ module _ (b d l v : ℕ) (digit : d ≡ digit_value b) (letter : l ≡ letter_va
   value_high : 57 < b → d ≡ 16
   value_high p = digit ∙ simp (le-ltb b 48 (omega arith), lt-leb b 57 p)
 
-  pub nibble_lesser : nibble_of b ≡ pick (ltb v 16) (Value v) Bad
+  pub nibble_lesser : nibble_of b ≡ pick (ltb v 16) (Some v) None
   nibble_lesser =
       ⊎_elim (λ (p : b < 48).
       let m : d ≡ 16 = digit ∙ simp (lt-ltb b 48 p) in

@@ -1,48 +1,29 @@
 // One digit in a range.
-ghost use Rattle.std.specs.Prelude.{◌≡◌};
-ghost use Rattle.field.specs.Readers.{digit_fault, ReadsDigit};
+ghost use Rattle.field.specs.Readers.{ReadsDigit};
 
-use crate::Cursor;
+use crate::{BadField, Cursor};
 
-// Value: with the place after the digit. Bad: the field's number, since it does not begin with such a digit.
-#[derive(Clone, Copy)]
-pub enum ReadDigit {
-    Value(u8, Cursor),
-    Bad(u32),
-}
-
-// The number that a refusal tells.
-pub fn digit_fault(r: ReadDigit) -> u32
-    ensures { result ≡ digit_fault r }
-{
-    match r {
-        ReadDigit::Value(_, _) => 0,
-        ReadDigit::Bad(number) => number,
-    }
-}
-
-// The digit from low to high that the line's field of that number begins with.
-pub fn read_digit(text: &[u8], c: Cursor, low: u8, high: u8, number: u8) -> ReadDigit
+// The digit from low to high that the line's field of that number begins with, and the place after it.
+pub fn read_digit(
+    text: &[u8],
+    c: Cursor,
+    low: u8,
+    high: u8,
+    number: u8,
+) -> Result<(u8, Cursor), BadField>
     ensures { ReadsDigit low high number text.now c.at result }
 {
     let at = c.at;
-    let bad = ReadDigit::Bad(number as u32);
-    if text.len() <= at {
+    let bad = Err(BadField(number as u32));
+    let Some(&byte) = text.get(at) else {
+        return bad;
+    };
+    if !byte.is_ascii_digit() {
         return bad;
     }
-    let byte = text[at];
-    if byte < 48 {
+    let digit = byte - b'0';
+    if digit < low || high < digit {
         return bad;
     }
-    if 57 < byte {
-        return bad;
-    }
-    let digit = byte - 48;
-    if digit < low {
-        return bad;
-    }
-    if high < digit {
-        return bad;
-    }
-    ReadDigit::Value(digit, Cursor { at: at + 1 })
+    Ok((digit, Cursor { at: at + 1 }))
 }

@@ -1,38 +1,23 @@
 // Where a field ends, and the byte that ends it: a tab, or the line's LF.
 ghost use Rattle.std.specs.Prelude.{◌≡◌, drop};
-ghost use Rattle.field.specs.Readers.{ends_here, end_byte, end_fault, ReadsEnd};
+ghost use Rattle.field.specs.Readers.{ends_here, end_byte, ReadsEnd};
 
-use crate::Cursor;
+use crate::{BadField, Cursor};
 
-#[derive(Clone, Copy)]
+#[derive(Clone, Copy, Debug, PartialEq, Eq)]
 pub enum FieldEnd {
     Tab,
     Lf,
 }
 
-// Bad: the field's own number where its content goes on here; where it ends, but not with that byte, the next field's.
-#[derive(Clone, Copy)]
-pub enum ReadEnd {
-    Here(Cursor),
-    Bad(u32),
-}
-
-// The number that a refusal tells.
-pub fn end_fault(r: ReadEnd) -> u32
-    ensures { result ≡ end_fault r }
-{
-    match r {
-        ReadEnd::Here(_) => 0,
-        ReadEnd::Bad(number) => number,
-    }
-}
-
-fn end_byte(end: FieldEnd) -> u8
-    ensures { result ≡ end_byte end }
-{
-    match end {
-        FieldEnd::Tab => b'\t',
-        FieldEnd::Lf => b'\n',
+impl FieldEnd {
+    fn byte(self) -> u8
+        ensures { result ≡ end_byte self }
+    {
+        match self {
+            FieldEnd::Tab => b'\t',
+            FieldEnd::Lf => b'\n',
+        }
     }
 }
 
@@ -40,30 +25,27 @@ fn end_byte(end: FieldEnd) -> u8
 pub(crate) fn ends_at(text: &[u8], at: usize) -> bool
     ensures { result ≡ ends_here (drop at text.now) }
 {
-    if text.len() <= at {
-        return true;
+    match text.get(at) {
+        None => true,
+        Some(&byte) => byte == b'\t' || byte == b'\n',
     }
-    let byte = text[at];
-    if byte == b'\t' {
-        return true;
-    }
-    byte == b'\n'
 }
 
-// The end of the line's field of that number, at a place up to which its content is good.
-pub fn read_end(text: &[u8], c: Cursor, end: FieldEnd, number: u8) -> ReadEnd
+// The end of the line's field of that number, at a place up to which its content is good. It is refused with the field's own number where the content
+// goes on here; where it ends, but not with that byte, with the next field's.
+pub fn read_end(text: &[u8], c: Cursor, end: FieldEnd, number: u8) -> Result<Cursor, BadField>
     ensures { ReadsEnd end number text.now c.at result }
 {
     let at = c.at;
     let next = number as u32 + 1;
-    if text.len() <= at {
-        return ReadEnd::Bad(next);
-    }
-    if text[at] == end_byte(end) {
-        return ReadEnd::Here(Cursor { at: at + 1 });
+    let Some(&byte) = text.get(at) else {
+        return Err(BadField(next));
+    };
+    if byte == end.byte() {
+        return Ok(Cursor { at: at + 1 });
     }
     if ends_at(text, at) {
-        return ReadEnd::Bad(next);
+        return Err(BadField(next));
     }
-    ReadEnd::Bad(number as u32)
+    Err(BadField(number as u32))
 }

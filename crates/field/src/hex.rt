@@ -1,31 +1,8 @@
 // Two lower-case hex digits.
 ghost use Rattle.std.specs.Prelude.{◌≡◌, min};
-ghost use Rattle.field.specs.Readers.{digit_value, letter_value, nibble_of, hex_fault, ReadsHex};
+ghost use Rattle.field.specs.Readers.{digit_value, letter_value, nibble_of, ReadsHex};
 
-use crate::Cursor;
-
-// Value: with the place after the digits. Bad: the field's number, since it does not begin with two hex digits.
-#[derive(Clone, Copy)]
-pub enum ReadHex {
-    Value(u8, Cursor),
-    Bad(u32),
-}
-
-// The number that a refusal tells.
-pub fn hex_fault(r: ReadHex) -> u32
-    ensures { result ≡ hex_fault r }
-{
-    match r {
-        ReadHex::Value(_, _) => 0,
-        ReadHex::Bad(number) => number,
-    }
-}
-
-#[derive(Drop)]
-pub enum Nibble {
-    Value(u8),
-    Bad,
-}
+use crate::{BadField, Cursor};
 
 // What the byte stands for as a digit 0 to 9; 16 if it is none.
 fn digit_value(byte: u8) -> u8
@@ -62,33 +39,30 @@ fn lesser(x: u8, y: u8) -> u8
 
 // What one hex digit stands for. Both values are worked out and the lesser is taken, with no branch between digits and letters:
 // a processor would guess that branch wrong too often.
-fn nibble_of(byte: u8) -> Nibble
+fn nibble_of(byte: u8) -> Option<u8>
     ensures { result ≡ nibble_of byte }
 {
     let value = lesser(digit_value(byte), letter_value(byte));
-    if value < 16 {
-        return Nibble::Value(value);
-    }
-    Nibble::Bad
+    if value < 16 { Some(value) } else { None }
 }
 
-// The byte whose two hex digits the line's field of that number begins with.
-pub fn read_hex(text: &[u8], c: Cursor, number: u8) -> ReadHex
+// The byte whose two hex digits the line's field of that number begins with, and the place after them.
+pub fn read_hex(text: &[u8], c: Cursor, number: u8) -> Result<(u8, Cursor), BadField>
     ensures { ReadsHex number text.now c.at result }
 {
     let at = c.at;
-    let bad = ReadHex::Bad(number as u32);
+    let bad = Err(BadField(number as u32));
     if text.len() <= at {
         return bad;
     }
     if text.len() - at < 2 {
         return bad;
     }
-    let Nibble::Value(high) = nibble_of(text[at]) else {
+    let Some(high) = nibble_of(text[at]) else {
         return bad;
     };
-    let Nibble::Value(low) = nibble_of(text[at + 1]) else {
+    let Some(low) = nibble_of(text[at + 1]) else {
         return bad;
     };
-    ReadHex::Value(high * 16 + low, Cursor { at: at + 2 })
+    Ok((high * 16 + low, Cursor { at: at + 2 }))
 }

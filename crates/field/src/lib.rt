@@ -10,15 +10,19 @@ mod hex;
 mod spelling;
 mod word;
 
-pub use decimal::{ReadDecimal, decimal_fault, read_decimal};
-pub use digit::{ReadDigit, digit_fault, read_digit};
-pub use ending::{FieldEnd, ReadEnd, end_fault, read_end};
-pub use hex::{ReadHex, hex_fault, read_hex};
+pub use decimal::read_decimal;
+pub use digit::read_digit;
+pub use ending::{FieldEnd, read_end};
+pub use hex::read_hex;
 pub use spelling::{ROOM, Spelling, no_bytes, put_decimal, put_hex, put_word};
-pub use word::{ReadWord, read_word, word_fault};
+pub use word::read_word;
 
 // A place in a text.
-#[derive(Clone, Copy)]
+#[derive(Clone, Copy, Debug, PartialEq, Eq)]
 pub struct Cursor {
     pub at: usize,
 }
+
+// The refusal of a line: the number of its first bad field, counted from 1.
+#[derive(Clone, Copy, Debug, PartialEq, Eq)]
+pub struct BadField(pub u32);

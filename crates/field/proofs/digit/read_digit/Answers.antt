@@ -1,22 +1,23 @@
-use Rattle.std.proofs.Common.{arith}
+use Rattle.std.proofs.Common.{rules, arith}
+use Rattle.std.proofs.lemmas.Grind.{get_or_default_zero}
 use Rattle.field.proofs.DigitLaws.{digit_short, digit_out, digit_good}
 use Rattle.field.proofs.Reading.{none, got_is}
 use Rattle.field.proofs.digit.read_digit.Goals as goal
 
-pub returns-then-text-at : goal.returns-then-text-at
-returns-then-text-at c = none (digit_short _ _ _ _ c.if-text-at.true)
+pub returns-in_default : goal.returns-in_default
+returns-in_default c = none (digit_short _ _ _ _ (search rules))
 
-pub returns-then-byte-lt48 : goal.returns-then-byte-lt48
-returns-then-byte-lt48 c = none (digit_out _ _ _ _ (λ d o e. omega arith))
-
-pub returns-then-byte-gt57 : goal.returns-then-byte-gt57
-returns-then-byte-gt57 c = none (digit_out _ _ _ _ (λ d o e. omega arith))
+pub returns-then-not-is_ascii_digit : goal.returns-then-not-is_ascii_digit
+returns-then-not-is_ascii_digit c =
+    let z = get_or_default_zero c.args.text.now c.args.c.at c.in-Some.field-0.now (search rules) in
+    none (digit_out _ _ _ _ (λ d o e. grind (arith, c.in-Some.ensures.lookup, c.if-not-is_ascii_digit.ensures.cases)))
 
 pub returns-then-digit-low : goal.returns-then-digit-low
-returns-then-digit-low c = none (digit_out _ _ _ _ (λ d o e. omega arith))
-
-pub returns-then-high-digit : goal.returns-then-high-digit
-returns-then-high-digit c = none (digit_out _ _ _ _ (λ d o e. omega arith))
+returns-then-digit-low c =
+    let z = get_or_default_zero c.args.text.now c.args.c.at c.in-Some.field-0.now (search rules) in
+    none (digit_out _ _ _ _ (λ d o e. grind (arith, c.in-Some.ensures.lookup, c.if-not-is_ascii_digit.ensures.cases)))
 
 pub returns : goal.returns
-returns c = got_is (digit_good _ _ _ _ _ c.if-text-at.false (omega arith) (omega arith))
+returns c =
+    let z = get_or_default_zero c.args.text.now c.args.c.at c.in-Some.field-0.now (search rules) in
+    got_is (digit_good _ _ _ _ _ (search rules) (omega (arith, c.in-Some.ensures.lookup, c.if-not-is_ascii_digit.ensures.cases)) (omega (arith, c.in-Some.ensures.lookup, c.if-not-is_ascii_digit.ensures.cases)))

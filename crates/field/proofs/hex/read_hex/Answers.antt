@@ -16,4 +16,4 @@ pub returns-in_default-nibble_of : goal.returns-in_default-nibble_of
 returns-in_default-nibble_of c = none (hex_low _ _ (sym c.in_default-nibble_of.ensures))
 
 pub returns : goal.returns
-returns c = got_is (hex_both _ _ _ _ (omega arith) (sym c.in-Value.ensures) (sym c.in-Value-nibble_of.ensures))
+returns c = got_is (hex_both _ _ _ _ (omega arith) (sym c.in-Some.ensures) (sym c.in-Some-nibble_of.ensures))

@@ -1,15 +1,15 @@
-use Rattle.std.proofs.Common.{arith}
-use Rattle.field.proofs.WordLaws.{word_short, word_here, word_empty}
+use Rattle.std.proofs.Common.{rules}
+use Rattle.field.proofs.WordLaws.{word_short, word_miss, word_here, word_empty}
 use Rattle.field.proofs.word.read_word.Goals as goal
 
-pub returns-then-word-eq0 : goal.returns-then-word-eq0
-returns-then-word-eq0 c = word_empty _ _ _ _ c.if-word-eq0.true
+pub returns-then-is_empty : goal.returns-then-is_empty
+returns-then-is_empty c = word_empty _ _ _ _ (search rules)
 
 pub returns-then-text-at : goal.returns-then-text-at
-returns-then-text-at c = word_short _ _ _ _ (omega arith) (omega arith)
+returns-then-text-at c = word_short _ _ _ _ (search rules) c.if-text-at.true
 
-pub returns-then-text-at-2 : goal.returns-then-text-at-2
-returns-then-text-at-2 c = word_short _ _ _ _ (omega arith) (omega arith)
+pub returns-then-not-starts_with : goal.returns-then-not-starts_with
+returns-then-not-starts_with c = word_miss _ _ _ _ c.if-text-at.false c.starts_with.ensures.value c.if-not-starts_with.true
 
 pub returns : goal.returns
-returns c = word_here _ _ _ _ (omega arith) (λ i h. c.loop-k.invariant.1 i (omega arith))
+returns c = word_here _ _ _ _ c.if-text-at.false c.starts_with.ensures.value c.if-not-starts_with.false
