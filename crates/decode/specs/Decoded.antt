@@ -3,22 +3,22 @@ use Rattle.std.specs.Prelude.{ℕ, List, [], ◌∷◌, ◌++◌, map}
 use Rattle.record.specs.declared.Event.{Event}
 use Rattle.record.specs.declared.Record.{Record}
 use Rattle.level.specs.declared.Level.{Level}
-use Rattle.decode.specs.declared.flash_bits.FlashTurn.{FlashTurn}
-use Rattle.decode.specs.declared.wire_bits.WireTurn.{WireTurn}
+use Rattle.decode.specs.declared.Turn.{Turn}
+use Rattle.decode.specs.declared.flash_bits.FlashBits.{FlashBits}
+use Rattle.decode.specs.declared.wire_bits.WireBits.{WireBits}
 use Rattle.decode.specs.declared.bits.Bits.{Bits}
-use Rattle.decode.specs.declared.bits.Turn.{Turn}
 use Rattle.decode.specs.Bits.{events_of}
 use Rattle.decode.specs.FlashLevels.{no_bits, flash_turn}
 use Rattle.decode.specs.WireLevels.{at_rest, wire_turn}
 
-abbrev pub of_flash : FlashTurn → Turn
+abbrev pub of_flash : Turn FlashBits → Turn Bits
 of_flash t = record { bits = Bits.Flash t.bits; out = t.out }
 
-abbrev pub of_wires : WireTurn → Turn
+abbrev pub of_wires : Turn WireBits → Turn Bits
 of_wires t = record { bits = Bits.Wires t.bits; out = t.out }
 
 -- from one line of the capture to the next, on the lines of the bus that is decoded
-abbrev pub turn_of : Bits → Level → Level → Turn
+abbrev pub turn_of : Bits → Level → Level → Turn Bits
 turn_of (Bits.Flash s) a b = of_flash (flash_turn s a.spi b.spi)
 turn_of (Bits.Wires s) a b = of_wires (wire_turn s a.wires b.wires)
 

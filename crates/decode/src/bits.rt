@@ -1,20 +1,15 @@
 // Either bus by itself: the bits so far of the one that is decoded.
+// Kept: an enum of both decoders and no trait, since the new form is no plainer: weave's feeds hold either, and what is proved of a capture's records is said once of this type; under a trait each of them is generic.
 ghost use Rattle.std.specs.Prelude.{◌≡◌};
 ghost use Rattle.decode.specs.Decoded.{flash_start, wires_start, turn_of};
 
-use crate::{FlashBits, Out, WireBits};
+use crate::{FlashBits, Turn, WireBits};
 use level::Level;
 
-#[derive(Clone, Copy)]
+#[derive(Clone, Copy, Debug, PartialEq, Eq)]
 pub enum Bits {
     Flash(FlashBits),
     Wires(WireBits),
-}
-
-#[derive(Clone, Copy)]
-pub struct Turn {
-    pub bits: Bits,
-    pub out: Out,
 }
 
 impl Bits {
@@ -31,30 +26,22 @@ impl Bits {
     }
 
     // From one line of the capture to the next.
-    pub fn turn(self, before: Level, after: Level) -> Turn
+    pub fn turn(self, before: Level, after: Level) -> Turn<Bits>
         ensures { result ≡ turn_of self before after }
     {
         match self {
-            Bits::Flash(s) => {
-                let a = before.spi;
-                let b = after.spi;
-                let t = s.turn(a, b);
-                let bits = t.bits;
-                let out = t.out;
+            Bits::Flash(bits) => {
+                let turn = bits.turn(before.spi, after.spi);
                 Turn {
-                    bits: Bits::Flash(bits),
-                    out,
+                    bits: Bits::Flash(turn.bits),
+                    out: turn.out,
                 }
             }
-            Bits::Wires(s) => {
-                let a = before.wires;
-                let b = after.wires;
-                let t = s.turn(a, b);
-                let bits = t.bits;
-                let out = t.out;
+            Bits::Wires(bits) => {
+                let turn = bits.turn(before.wires, after.wires);
                 Turn {
-                    bits: Bits::Wires(bits),
-                    out,
+                    bits: Bits::Wires(turn.bits),
+                    out: turn.out,
                 }
             }
         }

@@ -2,22 +2,16 @@
 ghost use Rattle.std.specs.Prelude.{◌≡◌};
 ghost use Rattle.decode.specs.FlashLevels.{no_bits, flash_clock, flash_ends, flash_low, flash_turn};
 
-use crate::Out;
+use crate::{Out, Turn};
 use level::Spi;
 use record::{Event, FlashEvent};
 
 // The bits of a byte that is not complete: how many, and SI's and SO's.
-#[derive(Clone, Copy)]
+#[derive(Clone, Copy, Debug, PartialEq, Eq)]
 pub struct FlashBits {
     pub count: u8,
     pub si: u8,
     pub so: u8,
-}
-
-#[derive(Clone, Copy)]
-pub struct FlashTurn {
-    pub bits: FlashBits,
-    pub out: Out,
 }
 
 impl FlashBits {
@@ -32,7 +26,7 @@ impl FlashBits {
     }
 
     // A clock that counts: the eighth completes the byte.
-    fn clock(self, si: bool, so: bool) -> FlashTurn
+    fn clock(self, si: bool, so: bool) -> Turn<FlashBits>
         ensures { result ≡ flash_clock self si so }
     {
         let si_bits = crate::push_bit(self.si, si);
@@ -43,60 +37,52 @@ impl FlashBits {
                 si: si_bits,
                 so: so_bits,
             };
-            return FlashTurn {
+            return Turn {
                 bits: more,
                 out: Out::Nothing,
             };
         }
-        FlashTurn {
+        Turn {
             bits: FlashBits::none(),
             out: Out::One(Event::Flash(FlashEvent::Byte(si_bits, so_bits))),
         }
     }
 
     // CS rises: a part of a byte is cut, whatever HOLD is.
-    fn ends(self) -> FlashTurn
+    fn ends(self) -> Turn<FlashBits>
         ensures { result ≡ flash_ends self }
     {
-        if self.count == 0 {
-            return FlashTurn {
-                bits: FlashBits::none(),
-                out: Out::One(Event::Flash(FlashEvent::Deselect)),
-            };
-        }
         let cut = Event::Flash(FlashEvent::Cut);
         let des = Event::Flash(FlashEvent::Deselect);
-        FlashTurn {
+        Turn {
             bits: FlashBits::none(),
-            out: Out::Two(cut, des),
+            out: if self.count == 0 {
+                Out::One(des)
+            } else {
+                Out::Two(cut, des)
+            },
         }
     }
 
     // CS is low: the clock counts where it rises and HOLD is high.
-    fn low(self, before: Spi, after: Spi) -> FlashTurn
+    fn low(self, before: Spi, after: Spi) -> Turn<FlashBits>
         ensures { result ≡ flash_low self before after }
     {
-        if level::rises(before.sck, after.sck) {
-            if after.hold {
-                return self.clock(after.si, after.so);
-            }
-            return FlashTurn {
-                bits: self,
-                out: Out::Nothing,
-            };
+        if level::rises(before.sck, after.sck) && after.hold {
+            return self.clock(after.si, after.so);
         }
-        FlashTurn {
+        Turn {
             bits: self,
             out: Out::Nothing,
         }
     }
 
     // From one line of the capture to the next.
-    pub fn turn(self, before: Spi, after: Spi) -> FlashTurn
+    pub fn turn(self, before: Spi, after: Spi) -> Turn<FlashBits>
         ensures { result ≡ flash_turn self before after }
     {
         if level::falls(before.cs, after.cs) {
-            return FlashTurn {
+            return Turn {
                 bits: FlashBits::none(),
                 out: Out::One(Event::Flash(FlashEvent::Select)),
             };
@@ -105,7 +91,7 @@ impl FlashBits {
             return self.ends();
         }
         if after.cs {
-            return FlashTurn {
+            return Turn {
                 bits: self,
                 out: Out::Nothing,
             };

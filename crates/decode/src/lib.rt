@@ -10,24 +10,28 @@ mod bits;
 mod flash_bits;
 mod wire_bits;
 
-pub use bits::{Bits, Turn};
-pub use flash_bits::{FlashBits, FlashTurn};
-pub use wire_bits::{Clock, Link, WireBits, WireTurn};
+pub use bits::Bits;
+pub use flash_bits::FlashBits;
+pub use wire_bits::{BytePart, WireBits};
 
-// What a line of the capture gives. Of two events `cut` is the first.
-#[derive(Clone, Copy)]
+// What a line of the capture gives: up to two events. Of two `cut` is the first.
+#[derive(Clone, Copy, Debug, PartialEq, Eq)]
 pub enum Out {
     Nothing,
     One(Event),
     Two(Event, Event),
 }
 
+// A decoder's step: the bits so far, and what the line gave.
+#[derive(Clone, Copy, Debug, PartialEq, Eq)]
+pub struct Turn<B> {
+    pub bits: B,
+    pub out: Out,
+}
+
 // A byte with one bit more behind it, most significant first; what leaves at the front is gone.
 fn push_bit(byte: u8, bit: bool) -> u8
     ensures { result ≡ pushed byte bit }
 {
-    if bit {
-        return byte % 128 * 2 + 1;
-    }
-    byte % 128 * 2
+    byte % 128 * 2 + bit as u8
 }

@@ -1,118 +1,110 @@
 // The two wires of the EEPROM: `sta`, `b`, `cut`, `sto`.
 ghost use Rattle.std.specs.Prelude.{◌≡◌};
-ghost use Rattle.decode.specs.WireLevels.{at_rest, wire_turned, after_part, start_turn, stop_turn, bit_turn, fall_turn, high_turn, wire_turn};
+ghost use Rattle.decode.specs.WireLevels.{no_part, at_rest, wire_turned, after_part, start_turn, stop_turn, bit_turn, fall_turn, high_turn, wire_turn};
 
-use crate::Out;
+use crate::{Out, Turn};
 use level::Wires;
 use record::{EepromEvent, Event};
 
-// Open: a start came and no stop since; with the bits of a byte that is not complete, how many and which.
-#[derive(Clone, Copy)]
-pub enum Link {
-    Closed,
-    Open(u8, u8),
+// The bits of a byte that is not complete: how many, and which.
+#[derive(Clone, Copy, Debug, PartialEq, Eq)]
+pub struct BytePart {
+    pub count: u8,
+    pub value: u8,
 }
 
-// Bit: SCL is high, with SDA's level at its rise, and no start or stop came since.
-#[derive(Clone, Copy)]
-pub enum Clock {
-    Nothing,
-    Bit(bool),
-}
-
-#[derive(Clone, Copy)]
+// link: where a start came and no stop since, the bits of a byte that is not complete.
+// clock: where SCL is high, and no start or stop came since its rise, SDA's level at that rise.
+#[derive(Clone, Copy, Debug, PartialEq, Eq)]
 pub struct WireBits {
-    pub link: Link,
-    pub clock: Clock,
+    pub link: Option<BytePart>,
+    pub clock: Option<bool>,
 }
 
-#[derive(Clone, Copy)]
-pub struct WireTurn {
-    pub bits: WireBits,
-    pub out: Out,
-}
-
-fn turned(link: Link, clock: Clock, out: Out) -> WireTurn
+fn turned(link: Option<BytePart>, clock: Option<bool>, out: Out) -> Turn<WireBits>
     ensures { result ≡ wire_turned link clock out }
 {
-    WireTurn {
+    Turn {
         bits: WireBits { link, clock },
         out,
     }
 }
 
-// A start or a stop: 1 to 8 bits before it are cut.
-fn after_part(count: u8, e: EepromEvent) -> Out
-    ensures { result ≡ after_part count e }
-{
-    if count == 0 {
-        return Out::One(Event::Eeprom(e));
+impl BytePart {
+    fn none() -> BytePart
+        ensures { result ≡ no_part }
+    {
+        BytePart { count: 0, value: 0 }
     }
-    Out::Two(Event::Eeprom(EepromEvent::Cut), Event::Eeprom(e))
+
+    // A start or a stop: 1 to 8 bits before it are cut.
+    fn then(self, e: EepromEvent) -> Out
+        ensures { result ≡ after_part self e }
+    {
+        if self.count == 0 {
+            return Out::One(Event::Eeprom(e));
+        }
+        Out::Two(Event::Eeprom(EepromEvent::Cut), Event::Eeprom(e))
+    }
 }
 
 // The clock that is high is no bit.
-fn start_turn(link: Link) -> WireTurn
+fn start_turn(link: Option<BytePart>) -> Turn<WireBits>
     ensures { result ≡ start_turn link }
 {
-    match link {
-        Link::Closed => turned(
-            Link::Open(0, 0),
-            Clock::Nothing,
-            Out::One(Event::Eeprom(EepromEvent::Start)),
-        ),
-        Link::Open(count, _) => {
-            let out = after_part(count, EepromEvent::Start);
-            turned(Link::Open(0, 0), Clock::Nothing, out)
-        }
-    }
+    let out = match link {
+        None => Out::One(Event::Eeprom(EepromEvent::Start)),
+        Some(part) => part.then(EepromEvent::Start),
+    };
+    turned(Some(BytePart::none()), None, out)
 }
 
 // With no start open a stop is passed over.
-fn stop_turn(link: Link) -> WireTurn
+fn stop_turn(link: Option<BytePart>) -> Turn<WireBits>
     ensures { result ≡ stop_turn link }
 {
-    match link {
-        Link::Closed => turned(Link::Closed, Clock::Nothing, Out::Nothing),
-        Link::Open(count, _) => {
-            let out = after_part(count, EepromEvent::Stop);
-            turned(Link::Closed, Clock::Nothing, out)
-        }
-    }
+    let out = match link {
+        None => Out::Nothing,
+        Some(part) => part.then(EepromEvent::Stop),
+    };
+    turned(None, None, out)
 }
 
 // The ninth bit is the acknowledge; with no start open a clock is passed over.
-fn bit_turn(link: Link, level: bool) -> WireTurn
+fn bit_turn(link: Option<BytePart>, level: bool) -> Turn<WireBits>
     ensures { result ≡ bit_turn link level }
 {
-    match link {
-        Link::Closed => turned(Link::Closed, Clock::Nothing, Out::Nothing),
-        Link::Open(count, value) => {
-            if count < 8 {
-                let more = crate::push_bit(value, level);
-                return turned(Link::Open(count + 1, more), Clock::Nothing, Out::Nothing);
-            }
-            return turned(
-                Link::Open(0, 0),
-                Clock::Nothing,
-                Out::One(Event::Eeprom(EepromEvent::Byte(value, level))),
-            );
-        }
+    let Some(part) = link else {
+        return turned(None, None, Out::Nothing);
+    };
+    if part.count < 8 {
+        let more = BytePart {
+            count: part.count + 1,
+            value: crate::push_bit(part.value, level),
+        };
+        return turned(Some(more), None, Out::Nothing);
     }
+    let byte = Event::Eeprom(EepromEvent::Byte(part.value, level));
+    turned(Some(BytePart::none()), None, Out::One(byte))
 }
 
 // SCL falls: its bit counts.
-fn fall_turn(link: Link, clock: Clock) -> WireTurn
+fn fall_turn(link: Option<BytePart>, clock: Option<bool>) -> Turn<WireBits>
     ensures { result ≡ fall_turn link clock }
 {
     match clock {
-        Clock::Nothing => turned(link, Clock::Nothing, Out::Nothing),
-        Clock::Bit(level) => bit_turn(link, level),
+        None => turned(link, None, Out::Nothing),
+        Some(level) => bit_turn(link, level),
     }
 }
 
 // SCL stays high: SDA falls in a start and rises in a stop.
-fn high_turn(link: Link, clock: Clock, before: bool, after: bool) -> WireTurn
+fn high_turn(
+    link: Option<BytePart>,
+    clock: Option<bool>,
+    before: bool,
+    after: bool,
+) -> Turn<WireBits>
     ensures { result ≡ high_turn link clock before after }
 {
     if level::falls(before, after) {
@@ -130,13 +122,13 @@ impl WireBits {
         ensures { result ≡ at_rest }
     {
         WireBits {
-            link: Link::Closed,
-            clock: Clock::Nothing,
+            link: None,
+            clock: None,
         }
     }
 
     // From one line of the capture to the next.
-    pub fn turn(self, before: Wires, after: Wires) -> WireTurn
+    pub fn turn(self, before: Wires, after: Wires) -> Turn<WireBits>
         ensures { result ≡ wire_turn self before after }
     {
         let link = self.link;
@@ -145,7 +137,7 @@ impl WireBits {
             return fall_turn(link, clock);
         }
         if level::rises(before.scl, after.scl) {
-            return turned(link, Clock::Bit(after.sda), Out::Nothing);
+            return turned(link, Some(after.sda), Out::Nothing);
         }
         if after.scl {
             return high_turn(link, clock, before.sda, after.sda);
