@@ -1,19 +1,16 @@
--- The four page rules as the code tells them apart; the rules themselves stand in Cycles.
-use Rattle.std.specs.Prelude.{ℕ, List, get_or}
-use Rattle.law.specs.Words.{pick}
+-- A page changed place by place by a step that the code is given: the step follows a rule.
+use Rattle.std.specs.Prelude.{ℕ, ◌≡◌, ◌<◌, List, get_or}
 use Rattle.cell.specs.declared.Cell.{Cell}
-use Rattle.cell.specs.Rules.{doubtful_cell, stored_cell, programmed_cell, cut_cell}
-use Rattle.page.specs.Geometry.{eeprom_page}
-use Rattle.page.specs.Rolling.{sent_place}
-use Rattle.image.specs.declared.Change.{Change}
-use Rattle.image.specs.declared.Change.TheVariants.{Program, CutProgram, Store, CutStore}
+use Rattle.page.specs.Geometry.{flash_page}
 
--- what becomes of place q with data d
-abbrev pub changed_cell : Change → ℕ → Cell → ℕ → Cell
-changed_cell Program q c d = programmed_cell c d
-changed_cell CutProgram q c d = cut_cell c d
-changed_cell (Store first count) q c d = pick (sent_place eeprom_page first count q) (stored_cell d) c
-changed_cell CutStore q c d = doubtful_cell
+-- the step may be asked at each place of a page
+abbrev pub Takes : (ℕ → Cell → ℕ → Type 0) → Type 0
+Takes pre = (q : ℕ) (c : Cell) (d : ℕ) → q < flash_page → pre q c d
 
-abbrev pub changed_place : Change → List ℕ → ℕ → Cell → Cell
-changed_place how bytes q c = changed_cell how q c (get_or bytes q 0)
+-- and makes there of the kept byte c and its data d what the rule says
+abbrev pub Follows : (ℕ → Cell → ℕ → Cell → Type 0) → (ℕ → Cell → ℕ → Cell) → Type 0
+Follows post rule = (q : ℕ) (c : Cell) (d : ℕ) (r : Cell) → q < flash_page → post q c d r → r ≡ rule q c d
+
+-- what becomes of place q with its data
+abbrev pub changed_place : (ℕ → Cell → ℕ → Cell) → List ℕ → ℕ → Cell → Cell
+changed_place rule bytes q c = rule q c (get_or bytes q 0)

@@ -2,14 +2,14 @@
 // An image has its own length. Values and masks of two lengths, and a page number that no page has, are left alone.
 #![tactic(auto)]
 
-ghost use Rattle.std.specs.Prelude.{◌≡◌, ◌+◌, ◌*◌, ◌≤◌, ◌<◌, length};
-ghost use Rattle.law.specs.Words.{by_place};
+ghost use Rattle.std.specs.Prelude.{ℕ, ◌≡◌, ◌+◌, ◌*◌, ◌≤◌, ◌<◌, length};
 ghost use Rattle.page.specs.Geometry.{flash_page, eeprom_page};
 ghost use Rattle.page.specs.Rolling.{sent_place};
 ghost use Rattle.image.specs.Image.{image_of, each_place, on_image, in_page, on_page};
 ghost use Rattle.image.specs.Images.{kept_bytes};
 ghost use Rattle.image.specs.Cycles.{program_page, cut_program_page, erase_all, cut_erase_all, store_page, cut_store_page};
-ghost use Rattle.image.specs.Changing.{changed_cell, changed_place};
+ghost use Rattle.cell.specs.declared.Cell.{Cell};
+ghost use Rattle.image.specs.Changing.{Takes, Follows, changed_place};
 
 use cell::Cell;
 use record::Chip;
@@ -35,21 +35,19 @@ pub fn kept_bytes(chip: Chip) -> usize
     }
 }
 
-// What becomes of the places of a page.
-#[derive(Clone, Copy)]
-enum Change {
-    Program,
-    CutProgram,
-    Store { first: usize, count: usize },
-    CutStore,
-}
-
+// Kept: the C interface lends values and masks as two buffers, so each function takes the two.
 // The end of PROGRAM in page `number`: `bytes` is ff where nothing was sent.
 #[tactic(auto, unfolding(crate::specs::Cycles::program_page))]
 pub fn program_page(values: &mut [u8], masks: &mut [u8], number: usize, bytes: [u8; FLASH_PAGE])
     ensures { image_of values.new masks.new ≡ program_page number bytes (image_of values.old masks.old) }
 {
-    change_page(values, masks, Change::Program, number, &bytes);
+    change_page(
+        values,
+        masks,
+        |_, c, d| cell::programmed(c, d),
+        number,
+        &bytes,
+    );
 }
 
 // PROGRAM in page `number`, cut by the supply.
@@ -57,7 +55,13 @@ pub fn program_page(values: &mut [u8], masks: &mut [u8], number: usize, bytes: [
 pub fn cut_program_page(values: &mut [u8], masks: &mut [u8], number: usize, bytes: [u8; FLASH_PAGE])
     ensures { image_of values.new masks.new ≡ cut_program_page number bytes (image_of values.old masks.old) }
 {
-    change_page(values, masks, Change::CutProgram, number, &bytes);
+    change_page(
+        values,
+        masks,
+        |_, c, d| cell::cut_program(c, d),
+        number,
+        &bytes,
+    );
 }
 
 // The end of an erase.
@@ -88,11 +92,17 @@ pub fn store_page(
 )
     ensures { image_of values.new masks.new ≡ store_page number first count bytes (image_of values.old masks.old) }
 {
-    let how = Change::Store {
-        first: first,
-        count: count,
-    };
-    change_page(values, masks, how, number, &bytes);
+    change_page(
+        values,
+        masks,
+        |q, c, d| if sent(first, count, q) {
+            cell::stored(d)
+        } else {
+            c
+        },
+        number,
+        &bytes,
+    );
 }
 
 // An EEPROM write in page `number`, cut by the supply: it leaves the whole page in doubt, so which bytes were sent is not asked.
@@ -102,7 +112,7 @@ pub fn cut_store_page(values: &mut [u8], masks: &mut [u8], number: usize)
 {
     // No data is put in: only the page's length counts.
     let page = [0u8; EEPROM_PAGE];
-    change_page(values, masks, Change::CutStore, number, &page);
+    change_page(values, masks, |_, _, _| cell::doubtful(), number, &page);
 }
 
 // Was place q of an EEPROM page sent, in the page's own rolling?
@@ -117,29 +127,20 @@ fn sent(first: usize, count: usize, q: usize) -> bool
     }
 }
 
-// The kept byte c at place q of a page whose data there is d, after the cycle.
-fn changed(how: Change, q: usize, c: Cell, d: u8) -> Cell
-    requires { q < flash_page }
-    ensures { result ≡ changed_cell how q c d }
-{
-    match how {
-        Change::Program => cell::programmed(c, d),
-        Change::CutProgram => cell::cut_program(c, d),
-        Change::Store { first, count } => {
-            if sent(first, count, q) {
-                cell::stored(d)
-            } else {
-                c
-            }
-        }
-        Change::CutStore => cell::doubtful(),
-    }
-}
-
-// A page of an image, if the image has as many masks as values, and that page. The page is as long as its data.
-fn change_page(values: &mut [u8], masks: &mut [u8], how: Change, number: usize, bytes: &[u8])
-    requires { (0 < length bytes.now) × (length bytes.now ≤ flash_page) }
-    ensures { image_of values.new masks.new ≡ on_page (length bytes.now) number (changed_place how bytes.now) (image_of values.old masks.old) }
+// A page of an image, if the image has as many masks as values, and that page. The page is as long as its data. Of each of its places, of the kept byte there and of
+// its data the step makes what the cycle leaves.
+fn change_page<F: Fn(usize, Cell, u8) -> Cell>(
+    values: &mut [u8],
+    masks: &mut [u8],
+    step: F,
+    number: usize,
+    bytes: &[u8],
+)
+    ghost rule: { ℕ → Cell → ℕ → Cell }
+    requires size { (0 < length bytes.now) × (length bytes.now ≤ flash_page) }
+    requires callable { Takes (F.pre step) }
+    requires follows { Follows (F.post step) rule }
+    ensures { image_of values.new masks.new ≡ on_page (length bytes.now) number (changed_place rule bytes.now) (image_of values.old masks.old) }
 {
     if values.len() / bytes.len() <= number {
         return;
@@ -147,26 +148,33 @@ fn change_page(values: &mut [u8], masks: &mut [u8], how: Change, number: usize, 
     if masks.len() != values.len() {
         return;
     }
-    change_places(values, masks, how, number, bytes);
+    change_places(values, masks, step, number, bytes);
 }
 
 // The places of the page, one after the other.
-fn change_places(values: &mut [u8], masks: &mut [u8], how: Change, number: usize, bytes: &[u8])
-    requires { (length masks.old ≡ length values.old) × (0 < length bytes.now) × (length bytes.now ≤ flash_page) × (length bytes.now * number + length bytes.now ≤ length values.old) }
-    ensures { image_of values.new masks.new ≡ each_place (in_page (length bytes.now) number (changed_place how bytes.now)) (image_of values.old masks.old) }
+fn change_places<F: Fn(usize, Cell, u8) -> Cell>(
+    values: &mut [u8],
+    masks: &mut [u8],
+    step: F,
+    number: usize,
+    bytes: &[u8],
+)
+    ghost rule: { ℕ → Cell → ℕ → Cell }
+    requires size { (length masks.old ≡ length values.old) × (0 < length bytes.now) × (length bytes.now ≤ flash_page) × (length bytes.now * number + length bytes.now ≤ length values.old) }
+    requires callable { Takes (F.pre step) }
+    requires follows { Follows (F.post step) rule }
+    ensures { image_of values.new masks.new ≡ each_place (in_page (length bytes.now) number (changed_place rule bytes.now)) (image_of values.old masks.old) }
 {
     let base = bytes.len() * number;
-    let mut q: usize = 0;
-    while q < bytes.len() {
+    for (q, &d) in bytes.iter().enumerate() {
         let k = base + q;
         let c = Cell {
             value: values[k],
             mask: masks[k],
         };
-        let n = changed(how, q, c, bytes[q]);
+        let n = step(q, c, d);
         values[k] = n.value;
         masks[k] = n.mask;
-        q += 1;
     }
 }
 
@@ -177,17 +185,6 @@ fn fill_both(values: &mut [u8], masks: &mut [u8], c: Cell)
     if masks.len() != values.len() {
         return;
     }
-    fill(values, c.value);
-    fill(masks, c.mask);
-}
-
-// All of s is b.
-fn fill(s: &mut [u8], b: u8)
-    ensures { s.new ≡ by_place (λ k x. b) 0 s.old }
-{
-    let mut i = 0;
-    while i < s.len() {
-        s[i] = b;
-        i += 1;
-    }
+    values.fill(c.value);
+    masks.fill(c.mask);
 }

@@ -45,13 +45,9 @@ pub fn view_length(flash: usize, eeprom: usize, chip: Chip, number: usize) -> us
 fn can_show(flash: usize, eeprom: usize, chip: Chip, number: usize) -> bool
     ensures { result ≡ can_show (per_chip flash eeprom) chip number }
 {
-    if flash != crate::kept_bytes(Chip::Flash) {
-        return false;
-    }
-    if eeprom != crate::kept_bytes(Chip::Eeprom) {
-        return false;
-    }
-    number < crate::kept_bytes(chip) / page_size(chip)
+    flash == crate::kept_bytes(Chip::Flash)
+        && eeprom == crate::kept_bytes(Chip::Eeprom)
+        && number < crate::kept_bytes(chip) / page_size(chip)
 }
 
 fn page_size(chip: Chip) -> usize

@@ -24,58 +24,44 @@ fn print<R: Print>(rt: &R, part: &[u8]) -> io::Result<()> {
     println!(rt;)
 }
 
-fn show<R: Print>(
-    rt: &R,
-    name: &str,
-    flash: &[u8],
-    eeprom: &[u8],
-    chip: Chip,
-    number: usize,
-) -> io::Result<()> {
-    print!(rt; "{name}\t")?;
-    print(rt, image::view::view(flash, eeprom, chip, number))
-}
-
 // What is laid at a place of an image: its page's number, the low byte at an even place, at an odd one the high byte with the image's mark.
-fn laid(place: usize, page: usize, mark: usize) -> u8
+fn laid(place: usize, page: usize, mark: u8) -> u8
     requires { (0 < page) × (mark ≤ 254) }
 {
-    let number = place / page;
-    if place % 2 == 0 {
-        return (number % 256) as u8;
-    }
-    (mark + number / 256 % 2) as u8
+    let [low, high, ..] = (place / page).to_le_bytes();
+    if place % 2 == 0 { low } else { mark + high % 2 }
 }
 
-fn lay(bytes: &mut [u8], page: usize, mark: usize)
+fn lay(bytes: &mut [u8], page: usize, mark: u8)
     requires { (0 < page) × (mark ≤ 254) }
 {
-    let mut i: usize = 0;
-    while i < bytes.len() {
-        bytes[i] = laid(i, page, mark);
-        i += 1;
+    for (place, b) in bytes.iter_mut().enumerate() {
+        *b = laid(place, page, mark);
     }
 }
 
 fn flash_pages<R: Print>(rt: &R, flash: &[u8], eeprom: &[u8]) -> io::Result<()> {
-    show(rt, "flash 0", flash, eeprom, Chip::Flash, 0)?;
-    show(rt, "flash 1", flash, eeprom, Chip::Flash, 1)?;
-    show(rt, "flash 127", flash, eeprom, Chip::Flash, 127)?;
-    show(rt, "flash 128", flash, eeprom, Chip::Flash, 128)
+    for number in [0, 1, 127, 128] {
+        print!(rt; "flash {number}\t")?;
+        print(rt, image::view::view(flash, eeprom, Chip::Flash, number))?;
+    }
+    Ok(())
 }
 
 fn eeprom_pages<R: Print>(rt: &R, flash: &[u8], eeprom: &[u8]) -> io::Result<()> {
-    show(rt, "eeprom 0", flash, eeprom, Chip::Eeprom, 0)?;
-    show(rt, "eeprom 1", flash, eeprom, Chip::Eeprom, 1)?;
-    show(rt, "eeprom 256", flash, eeprom, Chip::Eeprom, 256)?;
-    show(rt, "eeprom 511", flash, eeprom, Chip::Eeprom, 511)?;
-    show(rt, "eeprom 512", flash, eeprom, Chip::Eeprom, 512)
+    for number in [0, 1, 256, 511, 512] {
+        print!(rt; "eeprom {number}\t")?;
+        print(rt, image::view::view(flash, eeprom, Chip::Eeprom, number))?;
+    }
+    Ok(())
 }
 
 // One image is not as long as is kept: no page of either is shown.
 fn wrong_length<R: Print>(rt: &R, flash: &[u8], eeprom: &[u8]) -> io::Result<()> {
-    show(rt, "flash 0, wrong length", flash, eeprom, Chip::Flash, 0)?;
-    show(rt, "eeprom 0, wrong length", flash, eeprom, Chip::Eeprom, 0)
+    print!(rt; "flash 0, wrong length\t")?;
+    print(rt, image::view::view(flash, eeprom, Chip::Flash, 0))?;
+    print!(rt; "eeprom 0, wrong length\t")?;
+    print(rt, image::view::view(flash, eeprom, Chip::Eeprom, 0))
 }
 
 fn main(rt: HostRuntime) -> io::Result<()> {

@@ -1,9 +1,9 @@
 -- Noting the pages of one chip is writing their entries. Assumes nothing.
-use mathlib.Core.Path.{◌≡◌, refl, sym, ap, ◌∙◌}
+use mathlib.Core.Path.{◌≡◌, sym, ap, ◌∙◌}
 use mathlib.Core.Bool.{false}
 use mathlib.Core.Logic.{⊎_elim}
 use mathlib.Core.List.{List}
-use Prim.Native.Nat.{ℕ, zero, suc, ◌+◌, ◌-◌, ◌/◌, ◌%◌, ◌≤◌, ◌<◌}
+use Prim.Native.Nat.{ℕ, ◌+◌, ◌-◌, ◌/◌, ◌%◌, ◌≤◌, ◌<◌}
 use native.Mathlib.Omega.{arith}
 use borrow.Author.Tests.{eqb-true, eqb-false, eq-eqb, ne_eqb, lt-leb, le-leb, lt-ltb, le-ltb, leb-true, ltb-true}
 use lib.Dec.{eqb, leb, ltb}
@@ -15,15 +15,6 @@ use Rattle.times.specs.declared.Pages.{Pages}
 use Rattle.times.specs.declared.Pages.TheVariants.{None, One, All}
 use Rattle.times.specs.Times.{written, pages_of, first_entry, entry_byte, reaches}
 use Rattle.times.specs.Put.{entries_with, pages_with}
-
--- an entry has five bytes
-pub past : (t q : ℕ) → 5 ≤ q → ◌≡◌ {A = ℕ} 0 (entry_byte (written t) q)
-past t zero h = absurd (omega arith)
-past t (suc zero) h = absurd (omega arith)
-past t (suc (suc zero)) h = absurd (omega arith)
-past t (suc (suc (suc zero))) h = absurd (omega arith)
-past t (suc (suc (suc (suc zero)))) h = absurd (omega arith)
-past t (suc (suc (suc (suc (suc q))))) h = refl
 
 -- ---- lists by place
 pub same_places : (f g : ℕ → ℕ → ℕ) (xs : List ℕ) → ((k x : ℕ) → f k x ≡ g k x) → by_place f 0 xs ≡ by_place g 0 xs

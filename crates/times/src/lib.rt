@@ -2,13 +2,13 @@
 #![tactic(auto)]
 
 ghost use Rattle.std.specs.Prelude.{◌≡◌};
-ghost use Rattle.times.specs.Times.{written, pages_of, first_entry, entry_byte};
+ghost use Rattle.times.specs.Times.{written, pages_of, first_entry, entry_bytes};
 ghost use Rattle.times.specs.Put.{entries_with, pages_with, times_with};
 
 use record::Chip;
 
 // Which of the pages that are kept of a chip are touched.
-#[derive(Clone, Copy)]
+#[derive(Clone, Copy, Debug, PartialEq, Eq)]
 pub enum Pages {
     None,
     One(u32),
@@ -16,7 +16,7 @@ pub enum Pages {
 }
 
 // Of both chips.
-#[derive(Clone, Copy)]
+#[derive(Clone, Copy, Debug, PartialEq, Eq)]
 pub struct Touched {
     pub flash: Pages,
     pub eeprom: Pages,
@@ -53,41 +53,23 @@ pub fn first_entry(chip: Chip) -> u32
     }
 }
 
-// Byte q of the entry of a page that was written at the stamp.
-#[tactic(auto, using(crate::proofs::Noting::past))]
-fn entry_byte(stamp: u32, q: usize) -> u8
-    ensures { result ≡ entry_byte (written stamp) q }
+// The entry of a page that was written at the stamp.
+fn entry_at(stamp: u32) -> [u8; ENTRY]
+    ensures { result ≡ entry_bytes (written stamp) }
 {
-    if q == 0 {
-        return 1;
-    }
-    if q == 1 {
-        return (stamp % 256) as u8;
-    }
-    if q == 2 {
-        return (stamp / 256 % 256) as u8;
-    }
-    if q == 3 {
-        return (stamp / 65536 % 256) as u8;
-    }
-    if q == 4 {
-        return (stamp / 16777216 % 256) as u8;
-    }
-    0
+    let [lowest, low, high, highest] = stamp.to_le_bytes();
+    [1, lowest, low, high, highest]
 }
 
 // `many` entries from the entry `first` on are written at the stamp; what would stand past the table is left out.
 fn write_entries(table: &mut [u8], first: u32, many: u32, stamp: u32)
     ensures { table.new ≡ entries_with first many stamp table.old }
 {
+    let entry = entry_at(stamp);
+    let from = ENTRY * first as usize;
     let end = ENTRY * (first as usize + many as usize);
-    let mut k = ENTRY * first as usize;
-    while k < end {
-        if table.len() <= k {
-            return;
-        }
-        table[k] = entry_byte(stamp, k % ENTRY);
-        k += 1;
+    for k in from..end.min(table.len()) {
+        table[k] = entry[k % ENTRY];
     }
 }
 
@@ -96,20 +78,13 @@ fn put_pages(table: &mut [u8], chip: Chip, stamp: u32, pages: Pages)
     ensures { table.new ≡ pages_with chip stamp pages table.old }
 {
     match pages {
-        Pages::None => {
-            return;
-        }
+        Pages::None => {}
         Pages::One(n) => {
             if n < pages_of(chip) {
                 write_entries(table, first_entry(chip) + n, 1, stamp);
-                return;
             }
-            return;
         }
-        Pages::All => {
-            write_entries(table, first_entry(chip), pages_of(chip), stamp);
-            return;
-        }
+        Pages::All => write_entries(table, first_entry(chip), pages_of(chip), stamp),
     }
 }
 
@@ -118,8 +93,7 @@ fn put_pages(table: &mut [u8], chip: Chip, stamp: u32, pages: Pages)
 pub fn put_times(table: &mut [u8], stamp: u32, touched: Touched)
     ensures { table.new ≡ times_with stamp touched table.old }
 {
-    let flash = touched.flash;
-    let eeprom = touched.eeprom;
+    let Touched { flash, eeprom } = touched;
     put_pages(table, Chip::Flash, stamp, flash);
     put_pages(table, Chip::Eeprom, stamp, eeprom);
 }

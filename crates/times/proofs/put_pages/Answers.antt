@@ -18,8 +18,8 @@ returns-then-n-pages_of c =
     ∙ notes_one a.chip a.stamp a.table.now n (omega (arith, c.pages_of.ensures, c.if-n-pages_of.true))
     ∙ ap (λ (p : Pages). pages_with a.chip a.stamp p a.table.now) (sym c.in-One.is)
 
-pub returns-in-One : goal.returns-in-One
-returns-in-One c =
+pub returns-else-n-pages_of : goal.returns-else-n-pages_of
+returns-else-n-pages_of c =
     let a = c.args in
     notes_past a.chip a.stamp a.table.now c.in-One.n (omega (arith, c.pages_of.ensures, c.if-n-pages_of.false))
     ∙ ap (λ (p : Pages). pages_with a.chip a.stamp p a.table.now) (sym c.in-One.is)

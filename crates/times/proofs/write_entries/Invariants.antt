@@ -1,11 +1,8 @@
 -- All bytes before k are done.
-use Rattle.std.proofs.Common.{◌≡◌, ◌-◌, ◌*◌, ◌≤◌}
+use Rattle.std.proofs.Common.{◌≡◌}
 use Rattle.law.specs.Places.{done}
 use Rattle.times.specs.Put.{entry_from}
 use Rattle.times.proofs.write_entries.Given as goal
 
 abbrev pub invariant-loop-k : goal.invariant-loop-k
-invariant-loop-k l = (5 * l.first ≤ l.k) × (l.table ≡ done (entry_from l.first l.many l.stamp) l.k l.fn.table)
-
-abbrev pub decreases-loop-k : goal.decreases-loop-k
-decreases-loop-k l = l.end - l.k
+invariant-loop-k l = l.table ≡ done (entry_from l.first l.many l.stamp) l.k l.fn.table
