@@ -14,7 +14,7 @@ use Rattle.field.specs.declared.ending.FieldEnd.{FieldEnd}
 use Rattle.field.specs.Ends.{tab_byte, lf_byte, tab}
 use Rattle.field.specs.Reads.{Stands, Reads}
 use Rattle.field.proofs.Reading.{Tells, Got, got_none, got_one}
-use Rattle.field.proofs.Answers.{No, GotWord, NoWord, tells_decimal, tells_end}
+use Rattle.field.proofs.Answers.{No, GotWord, NoWord, tells_got, tells_past}
 use Rattle.field.proofs.DecimalLaws.{reads_decimal}
 use Rattle.field.proofs.WordLaws.{end_out, end_other, end_is}
 use Rattle.level.specs.declared.Level.{Level}
@@ -70,14 +70,14 @@ module _ (text : List ℕ) where
   tab_here at =
       ⊎_elim
       (λ h.
-      split (eqb (get_or text at 0) tab_byte) (λ e. inl (at + 1, got_one tells_end (end_is text at FieldEnd.Tab 1 h (eqb-true (get_or text at 0) tab_byte e)) tt (at + 1) refl))
-      (λ e. inr (got_none tells_end (end_other text at FieldEnd.Tab 1 (eqb-false (get_or text at 0) tab_byte e) refl) refl)))
-      (λ h. inr (got_none tells_end (end_out text at FieldEnd.Tab 1 h refl) refl)) (lt_or_le at (length text))
+      split (eqb (get_or text at 0) tab_byte) (λ e. inl (at + 1, got_one tells_past (end_is text at FieldEnd.Tab 1 h (eqb-true (get_or text at 0) tab_byte e)) tt (at + 1) refl))
+      (λ e. inr (got_none tells_past (end_other text at FieldEnd.Tab 1 (eqb-false (get_or text at 0) tab_byte e) refl) refl)))
+      (λ h. inr (got_none tells_past (end_out text at FieldEnd.Tab 1 h refl) refl)) (lt_or_le at (length text))
 
   stamp_here : (at : ℕ) → Told spelled_stamp Small text at
   stamp_here at =
       ⊎_elim (λ a. ⊎_elim (λ b. inl (a.0, b.0, stamp_got a.2 b.1)) (λ n. inr (stamp_no_tab a.2 n)) (tab_here a.1)) (λ n. inr (stamp_none n))
-      (told tells_decimal (reads_decimal 1 text at))
+      (told tells_got (reads_decimal 1 text at))
 
   -- some answer fits the promise of `read_level`
   some_level : (at : ℕ) → (r : Option (Level × Cursor)) × ReadsLevel text at r

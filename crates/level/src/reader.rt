@@ -4,7 +4,7 @@ ghost use Rattle.level.specs.Readers.{ReadsFlag, ReadsSpi, ReadsWires};
 ghost use Rattle.level.specs.Spelled.{ReadsLevel};
 
 use crate::{Level, Spi, Wires};
-use field::{Cursor, FieldEnd, ReadDecimal, ReadEnd};
+use field::{Cursor, FieldEnd};
 
 // 0 or 1, and then the byte that ends the field; with the place after it.
 fn read_flag(text: &[u8], c: Cursor, end: u8) -> Option<(bool, Cursor)>
@@ -59,10 +59,10 @@ fn read_wires(text: &[u8], c: Cursor) -> Option<(Wires, Cursor)>
 pub fn read_level(text: &[u8], c: Cursor) -> Option<(Level, Cursor)>
     ensures { ReadsLevel text.now c.at result }
 {
-    let ReadDecimal::Value(stamp, c1) = field::read_decimal(text, c, 1) else {
+    let Ok((stamp, c1)) = field::read_decimal(text, c, 1) else {
         return None;
     };
-    let ReadEnd::Here(c2) = field::read_end(text, c1, FieldEnd::Tab, 1) else {
+    let Ok(c2) = field::read_end(text, c1, FieldEnd::Tab, 1) else {
         return None;
     };
     let (spi, c3) = read_spi(text, c2)?;
