@@ -26,19 +26,15 @@ use Rattle.level.specs.Rest.{falls, rises}
 use Rattle.decode.specs.declared.Out.{Out}
 use Rattle.decode.specs.declared.Out.TheVariants as out
 use Rattle.decode.specs.declared.flash_bits.FlashBits.{FlashBits}
-use Rattle.decode.specs.declared.flash_bits.FlashTurn.{FlashTurn}
-use Rattle.decode.specs.declared.wire_bits.Link.{Link}
-use Rattle.decode.specs.declared.wire_bits.Link.TheVariants as link
-use Rattle.decode.specs.declared.wire_bits.Clock.{Clock}
-use Rattle.decode.specs.declared.wire_bits.Clock.TheVariants as clock
+use Rattle.decode.specs.declared.Turn.{Turn}
+use Rattle.decode.specs.declared.wire_bits.BytePart.{BytePart}
 use Rattle.decode.specs.declared.wire_bits.WireBits.{WireBits}
-use Rattle.decode.specs.declared.wire_bits.WireTurn.{WireTurn}
 use Rattle.decode.specs.declared.bits.Bits.{Bits}
 use Rattle.decode.specs.Bits.{pushed, events_of}
 use Rattle.decode.specs.FlashLevels.{flash_ends, flash_low, flash_turn}
 use Rattle.decode.specs.WireLevels.{wire_turned, start_turn, stop_turn, bit_turn, fall_turn, wire_turn}
 use Rattle.decode.specs.Decoded.{turn_of, record_at, records_at, decoded_from}
-use Rattle.capture.specs.declared.Fault.TheVariants.{Nothing}
+use Rattle.std.specs.Prelude.{Option, Some, None, Ok}
 use Rattle.capture.specs.Captures.{line, fault_of, Faultless}
 use Rattle.capture.specs.Merge.{number_of}
 use Rattle.capture.proofs.OneCapture.{bad_not_nothing}
@@ -62,9 +58,9 @@ abbrev pub by_level : Bool → Bus
 by_level true = Closed
 by_level false = Open
 
-abbrev by_link : Link → Bus
-by_link link.Closed = Closed
-by_link (link.Open count value) = Open
+abbrev by_link : Option BytePart → Bus
+by_link None = Closed
+by_link (Some p) = Open
 
 -- how the bus stands behind a line of the capture
 abbrev pub bus_at : Bits → Level → Bus
@@ -72,9 +68,9 @@ bus_at (Bits.Flash s) a = by_level a.spi.cs
 bus_at (Bits.Wires s) a = by_link s.link
 
 -- the bits of a byte that is not complete are a byte; the flash's come out complete only by `pushed`
-abbrev LinkOk : Link → Type 0
-LinkOk link.Closed = Unit {0}
-LinkOk (link.Open count value) = value < 256
+abbrev LinkOk : Option BytePart → Type 0
+LinkOk None = Unit {0}
+LinkOk (Some p) = p.value < 256
 
 abbrev pub Good : Bits → Type 0
 Good (Bits.Flash s) = Unit {0}
@@ -90,7 +86,7 @@ small b false = omega arith
 
 -- ---- the flash's lines
 module _ (t : ℕ) (l : List Record) where
-  abbrev FlashRuns : Bus → FlashTurn → Type 0
+  abbrev FlashRuns : Bus → Turn FlashBits → Type 0
   FlashRuns x o = Runs flash_to x (records_at t (events_of o.out) ++ l)
 
   low_runs : (s : FlashBits) (a b : Spi) → Runs flash_to Open l → FlashRuns Open (flash_low s a b)
@@ -111,7 +107,7 @@ module _ (t : ℕ) (l : List Record) where
   flash_runs s false ak ai ao ah false bk bi bo bh h =
       low_runs s (record { cs = false; sck = ak; si = ai; so = ao; hold = ah }) (record { cs = false; sck = bk; si = bi; so = bo; hold = bh }) h
 
-abbrev FlashAll : FlashTurn → Type 0
+abbrev FlashAll : Turn FlashBits → Type 0
 FlashAll o = All (λ (e : Event). (moves_flash e ≡ true) × EventOk e) (events_of o.out)
 
 flash_all : (s : FlashBits) (a b : Spi) → FlashAll (flash_turn s a b)
@@ -123,17 +119,17 @@ flash_all s a b =
     (of_both FlashAll (rises a.sck b.sck) _ _ (of_both FlashAll b.hold _ _ (of_both FlashAll (ltb s.count 7) _ _ tt ((refl, (small s.si b.si, small s.so b.so)), tt)) tt) tt)))
 
 -- ---- the two wires: a property of every turn, by the link that it began with
-module _ (P : Link → WireTurn → Type 0)
-    (still : (l : Link) (k : Clock) → P l (wire_turned l k out.Nothing))
-    (begin : (l : Link) → P l (start_turn l)) (end : (l : Link) → P l (stop_turn l)) (bit : (l : Link) (v : Bool) → P l (bit_turn l v)) where
-  fall_by : (l : Link) (k : Clock) → P l (fall_turn l k)
-  fall_by l clock.Nothing = still l clock.Nothing
-  fall_by l (clock.Bit v) = bit l v
+module _ (P : Option BytePart → Turn WireBits → Type 0)
+    (still : (l : Option BytePart) (k : Option Bool) → P l (wire_turned l k out.Nothing))
+    (begin : (l : Option BytePart) → P l (start_turn l)) (end : (l : Option BytePart) → P l (stop_turn l)) (bit : (l : Option BytePart) (v : Bool) → P l (bit_turn l v)) where
+  fall_by : (l : Option BytePart) (k : Option Bool) → P l (fall_turn l k)
+  fall_by l None = still l None
+  fall_by l (Some v) = bit l v
 
   turn_by : (s : WireBits) (a b : Wires) → P s.link (wire_turn s a b)
   turn_by s a b =
       of_both (P s.link) (falls a.scl b.scl) _ _ (fall_by s.link s.clock)
-      (of_both (P s.link) (rises a.scl b.scl) _ _ (still s.link (clock.Bit b.sda))
+      (of_both (P s.link) (rises a.scl b.scl) _ _ (still s.link (Some b.sda))
       (of_both (P s.link) b.scl _ _
       (of_both (P s.link) (falls a.sda b.sda) _ _ (begin s.link) (of_both (P s.link) (rises a.sda b.sda) _ _ (end s.link) (still s.link s.clock)))
       (still s.link s.clock)))
@@ -142,23 +138,23 @@ module _ (t : ℕ) (l : List Record) where
   abbrev OutRuns : Out → Type 0
   OutRuns o = Runs eeprom_to Open (records_at t (events_of o) ++ l)
 
-  abbrev WireRuns : Link → WireTurn → Type 0
+  abbrev WireRuns : Option BytePart → Turn WireBits → Type 0
   WireRuns k o = Runs eeprom_to (by_link o.bits.link) l → Runs eeprom_to (by_link k) (records_at t (events_of o.out) ++ l)
 
-  begin_runs : (k : Link) → WireRuns k (start_turn k)
+  begin_runs : (k : Option BytePart) → WireRuns k (start_turn k)
   unfolding Runs events_of
-  begin_runs link.Closed h = (Open, refl, h)
-  begin_runs (link.Open count value) h = of_both OutRuns (eqb count 0) _ _ (Open, refl, h) (Spoilt, refl, (Open, refl, h))
+  begin_runs None h = (Open, refl, h)
+  begin_runs (Some p) h = of_both OutRuns (eqb p.count 0) _ _ (Open, refl, h) (Spoilt, refl, (Open, refl, h))
 
-  end_runs : (k : Link) → WireRuns k (stop_turn k)
+  end_runs : (k : Option BytePart) → WireRuns k (stop_turn k)
   unfolding Runs events_of
-  end_runs link.Closed h = h
-  end_runs (link.Open count value) h = of_both OutRuns (eqb count 0) _ _ (Closed, refl, h) (Spoilt, refl, (Closed, refl, h))
+  end_runs None h = h
+  end_runs (Some p) h = of_both OutRuns (eqb p.count 0) _ _ (Closed, refl, h) (Spoilt, refl, (Closed, refl, h))
 
-  bit_runs : (k : Link) (v : Bool) → WireRuns k (bit_turn k v)
+  bit_runs : (k : Option BytePart) (v : Bool) → WireRuns k (bit_turn k v)
   unfolding Runs events_of
-  bit_runs link.Closed v h = h
-  bit_runs (link.Open count value) v h = of_both (WireRuns (link.Open count value)) (ltb count 8) _ _ (λ k. k) (λ k. (Open, refl, k)) h
+  bit_runs None v h = h
+  bit_runs (Some p) v h = of_both (WireRuns (Some p)) (ltb p.count 8) _ _ (λ k. k) (λ k. (Open, refl, k)) h
 
   wire_runs : (s : WireBits) (a b : Wires) → WireRuns s.link (wire_turn s a b)
   unfolding events_of
@@ -167,24 +163,24 @@ module _ (t : ℕ) (l : List Record) where
 abbrev OutAll : Out → Type 0
 OutAll o = All (λ (e : Event). (moves_eeprom e ≡ true) × EventOk e) (events_of o)
 
-abbrev WireAll : Link → WireTurn → Type 0
+abbrev WireAll : Option BytePart → Turn WireBits → Type 0
 WireAll k o = LinkOk k → LinkOk o.bits.link × OutAll o.out
 
-begin_all : (k : Link) → WireAll k (start_turn k)
+begin_all : (k : Option BytePart) → WireAll k (start_turn k)
 unfolding All events_of
-begin_all link.Closed h = (omega arith, ((refl, tt), tt))
-begin_all (link.Open count value) h = (omega arith, of_both OutAll (eqb count 0) _ _ ((refl, tt), tt) ((refl, tt), ((refl, tt), tt)))
+begin_all None h = (omega arith, ((refl, tt), tt))
+begin_all (Some p) h = (omega arith, of_both OutAll (eqb p.count 0) _ _ ((refl, tt), tt) ((refl, tt), ((refl, tt), tt)))
 
-end_all : (k : Link) → WireAll k (stop_turn k)
+end_all : (k : Option BytePart) → WireAll k (stop_turn k)
 unfolding All events_of
-end_all link.Closed h = (tt, tt)
-end_all (link.Open count value) h = (tt, of_both OutAll (eqb count 0) _ _ ((refl, tt), tt) ((refl, tt), ((refl, tt), tt)))
+end_all None h = (tt, tt)
+end_all (Some p) h = (tt, of_both OutAll (eqb p.count 0) _ _ ((refl, tt), tt) ((refl, tt), ((refl, tt), tt)))
 
-bit_all : (k : Link) (v : Bool) → WireAll k (bit_turn k v)
+bit_all : (k : Option BytePart) (v : Bool) → WireAll k (bit_turn k v)
 unfolding All events_of
-bit_all link.Closed v h = (tt, tt)
-bit_all (link.Open count value) v h =
-    of_both (WireAll (link.Open count value)) (ltb count 8) _ _ (λ k. (small value v, tt)) (λ k. (omega arith, ((refl, k), tt))) h
+bit_all None v h = (tt, tt)
+bit_all (Some p) v h =
+    of_both (WireAll (Some p)) (ltb p.count 8) _ _ (λ k. (small p.value v, tt)) (λ k. (omega arith, ((refl, k), tt))) h
 
 wire_all : (s : WireBits) (a b : Wires) → WireAll s.link (wire_turn s a b)
 unfolding All events_of
@@ -222,7 +218,7 @@ decoded_runs s a (b ∷ ls) =
     (subst (λ (to : Bus → Event → Moved). Runs to (bus_at (turn_of s a b).bits b) rest) (same_to s a b) (decoded_runs (turn_of s a b).bits b ls))
 
 -- lines without a fault
-pub not_back : (ts : List Record) (a b : Level) → fault_of ts (line a) b ≡ Nothing → a.stamp ≤ b.stamp
+pub not_back : (ts : List Record) (a b : Level) → fault_of ts (line a) b ≡ Ok tt → a.stamp ≤ b.stamp
 unfolding fault_of
 not_back ts a b h = ⊎_elim (λ z. bad_not_nothing z.1) (λ z. ltb-false b.stamp a.stamp z.0) (pick_says (ltb b.stamp a.stamp) _ _ _ h)
 

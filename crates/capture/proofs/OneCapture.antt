@@ -14,13 +14,13 @@ use Rattle.field.proofs.Answers.{zero_one}
 use Rattle.level.specs.declared.Level.{Level}
 use Rattle.level.specs.Spelled.{spelled_level, LevelOk}
 use Rattle.level.proofs.Theorems.{one_level, level_same, level_length}
-use Rattle.capture.specs.declared.Fault.TheVariants.{Nothing, Bad}
-use Rattle.capture.specs.Captures.{spelled_levels, Before, none, line, last_of, fault_of, Faultless, Captures, Begins, BadCapture, no_level, faulty}
+use Rattle.std.specs.Prelude.{Ok, Err}
+use Rattle.capture.specs.Captures.{spelled_levels, Before, none, line, last_of, Fault, fault_of, Faultless, Captures, Begins, BadCapture, no_level, faulty}
 
 -- ---- two lists of faultless lines at the front of the same bytes, neither of which can go on, are one
 -- no line more that is faultless stands at the front of the rest
 abbrev Stop : List Record → Before → List Level → List ℕ → Type 0
-Stop ts p ls rest = (l : Level) (u : List ℕ) → rest ≡ spelled_level l ++ u → LevelOk l → fault_of ts (last_of p ls) l ≡ Nothing → ⊥
+Stop ts p ls rest = (l : Level) (u : List ℕ) → rest ≡ spelled_level l ++ u → LevelOk l → fault_of ts (last_of p ls) l ≡ Ok tt → ⊥
 
 agree : (ts : List Record) (ls ls' : List Level) (p : Before) → Faultless ts p ls → Faultless ts p ls' → (rest rest' : List ℕ) → Stop ts p ls rest → Stop ts p ls' rest' → spelled_levels ls ++ rest ≡ spelled_levels ls' ++ rest' → ls ≡ ls'
 unfolding spelled_levels Faultless last_of
@@ -36,7 +36,7 @@ agree ts (l ∷ ls) (l' ∷ ls') p g g' rest rest' s s' e =
     (sym (drop-append_seam (spelled_level l) (spelled_levels ls ++ rest)) ∙ ap (λ (k : List ℕ). drop (length (spelled_level l)) k) f
     ∙ ap (λ (x : Level). drop (length (spelled_level x)) (spelled_level l' ++ (spelled_levels ls' ++ rest'))) h ∙ drop-append_seam (spelled_level l') (spelled_levels ls' ++ rest')))
 
-pub bad_not_nothing : {A : Type 0} {a : LevelsAnswer} → Bad a ≡ Nothing → A
+pub bad_not_nothing : {A : Type 0} {a : LevelsAnswer} → ◌≡◌ {A = Fault} (Err a) (Ok tt) → A
 bad_not_nothing e = absurd (zero_one (cc))
 
 -- a reading up to where it cannot go on
@@ -72,7 +72,7 @@ module _ {ts : List Record} {text : List ℕ} {ls : List Level} (b : Begins ts t
     stop = λ l u e o f. n l o (stands_there (spelled_level l) u e);
   }
 
-  ends_fault : (x : Level) (n : LevelsAnswer) → LevelOk x → Stands text (length (spelled_levels ls)) (spelled_level x) → fault_of ts (last_of none ls) x ≡ Bad n → Ends ts text ls
+  ends_fault : (x : Level) (n : LevelsAnswer) → LevelOk x → Stands text (length (spelled_levels ls)) (spelled_level x) → fault_of ts (last_of none ls) x ≡ Err n → Ends ts text ls
   ends_fault x n o s e = record {
     faultless = b.faultless;
     rest = b.stands.rest;
@@ -100,7 +100,7 @@ capture_not_bad {ts} {text} {ls} c (faulty ls' l n b o s e) =
     let same = ends_same (ends_whole c) (ends_fault b l n o s e) in
     not_long c same (inr (omega (arith, stands_length text (spelled_level l) (length (spelled_levels ls')) s (omega (arith, level_length l)), level_length l)))
 
-same_bad : {a b : LevelsAnswer} → Bad a ≡ Bad b → a ≡ b
+same_bad : {a b : LevelsAnswer} → ◌≡◌ {A = Fault} (Err a) (Err b) → a ≡ b
 same_bad e = cc
 
 pub bad_one : {ts : List Record} {text : List ℕ} {n n' : LevelsAnswer} {k k' : ℕ} → BadCapture ts text n k → BadCapture ts text n' k' → (n ≡ n') × (k ≡ k')

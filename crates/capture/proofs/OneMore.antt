@@ -11,10 +11,10 @@ use Rattle.field.proofs.Reading.{stands_join}
 use Rattle.line.proofs.Whole.{nil_of}
 use Rattle.level.specs.declared.Level.{Level}
 use Rattle.level.specs.Spelled.{spelled_level, LevelOk}
-use Rattle.capture.specs.declared.Fault.TheVariants.{Nothing}
+use Rattle.std.specs.Prelude.{Ok}
 use Rattle.capture.specs.Captures.{spelled_levels, Before, none, line, last_of, fault_of, Faultless, Captures, Begins}
 
-faultless_snoc : (ts : List Record) (p : Before) (ls : List Level) (l : Level) → Faultless ts p ls → LevelOk l → fault_of ts (last_of p ls) l ≡ Nothing → Faultless ts p (ls ++ (l ∷ []))
+faultless_snoc : (ts : List Record) (p : Before) (ls : List Level) (l : Level) → Faultless ts p ls → LevelOk l → fault_of ts (last_of p ls) l ≡ Ok tt → Faultless ts p (ls ++ (l ∷ []))
 unfolding Faultless last_of
 faultless_snoc ts p [] l f o e = (o, e, tt)
 faultless_snoc ts p (x ∷ ls) l f o e = (f.0, f.1, faultless_snoc ts (line x) ls l f.2 o e)
@@ -40,7 +40,7 @@ begins_none ts text = record { faultless = tt; stands = record { rest = text; is
 
 module _ {ts : List Record} {text : List ℕ} (ls : List Level) (b : Begins ts text ls) where
   -- a line without a fault stands behind them
-  pub begins_snoc : (l : Level) → LevelOk l → Stands text (length (spelled_levels ls)) (spelled_level l) → fault_of ts (last_of none ls) l ≡ Nothing → Begins ts text (ls ++ (l ∷ []))
+  pub begins_snoc : (l : Level) → LevelOk l → Stands text (length (spelled_levels ls)) (spelled_level l) → fault_of ts (last_of none ls) l ≡ Ok tt → Begins ts text (ls ++ (l ∷ []))
   begins_snoc l o s e = record {
     faultless = faultless_snoc ts none ls l b.faultless o e;
     stands =

@@ -21,7 +21,7 @@ use Rattle.level.specs.Rest.{resting}
 use Rattle.decode.specs.Decoded.{decoded_by, flash_start, wires_start, flash_of, eeprom_of}
 use Rattle.capture.specs.declared.Part.{Part}
 use Rattle.capture.specs.declared.Part.TheVariants.{FlashEnds, EepromEnds, Lines}
-use Rattle.capture.specs.declared.Fault.TheVariants.{Nothing}
+use Rattle.std.specs.Prelude.{Ok}
 use Rattle.capture.specs.Taken.{part_of, taken_of, moves_flash, moves_eeprom, flash_movers, eeprom_movers}
 use Rattle.capture.specs.Captures.{none, line, fault_of, Faultless, Captures}
 use Rattle.capture.specs.Merge.{number_of, channel_place, gathered, Merged}
@@ -43,7 +43,7 @@ unfolding All
 any [] = tt
 any (r ∷ m) = (tt, any m)
 
-first_high : (ts : List Record) (a : Level) → fault_of ts none a ≡ Nothing → a.spi.cs ≡ true
+first_high : (ts : List Record) (a : Level) → fault_of ts none a ≡ Ok tt → a.spi.cs ≡ true
 unfolding fault_of
 first_high ts a h = ⊎_elim (λ z. (both a.spi.cs _ z.0).0) (λ z. bad_not_nothing z.1) (pick_says (resting a) _ _ _ h)
 

@@ -20,18 +20,17 @@ use Rattle.level.specs.declared.Level.{Level}
 use Rattle.level.specs.Spelled.{spelled_level, LevelOk}
 use Rattle.level.proofs.Theorems.{level_length}
 use Rattle.level.proofs.Here.{LevelHere, level_here}
-use Rattle.capture.specs.declared.Fault.{Fault}
-use Rattle.capture.specs.declared.Fault.TheVariants.{Nothing, Bad}
+use Rattle.std.specs.Prelude.{Ok, Err}
 use Rattle.capture.specs.Taken.{taken_of}
-use Rattle.capture.specs.Captures.{spelled_levels, none, last_of, fault_of, Captures, Begins, BadCapture, no_level, faulty}
+use Rattle.capture.specs.Captures.{spelled_levels, none, last_of, Fault, fault_of, Captures, Begins, BadCapture, no_level, faulty}
 use Rattle.capture.specs.Merge.{Judgement, refused, merged, Judges, long_trace, bad_trace, long_levels, bad_levels, both}
 use Rattle.capture.proofs.OneMore.{length_snoc, begins_none, begins_snoc, begins_whole}
 use Rattle.capture.proofs.OneJudgement.{merged_some}
 
 -- a line has no fault, or one
-told_fault : (f : Fault) → (f ≡ Nothing) ⊎ ((a : LevelsAnswer) × (f ≡ Bad a))
-told_fault Nothing = inl refl
-told_fault (Bad a) = inr (a, refl)
+told_fault : (f : Fault) → (f ≡ Ok tt) ⊎ ((a : LevelsAnswer) × (f ≡ Err a))
+told_fault (Ok tt) = inl refl
+told_fault (Err a) = inr (a, refl)
 
 module _ (ts : List Record) (text : List ℕ) where
   abbrev Known : Type 0
