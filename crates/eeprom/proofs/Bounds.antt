@@ -10,6 +10,7 @@ use lib.Dec.{ltb, eqb}
 use lib.ListN.{get_or, length-set, length-replicate, get_or-replicate}
 use lib.Seq.{get_or-set_other, ext_get_or}
 use borrow.Author.Tests.{ltb-true, ltb-false, le-ltb, eqb-false}
+use Rattle.std.specs.Prelude.{Option, Some, None}
 use Rattle.law.specs.Choice.{split, of_both, true_not_false}
 use Rattle.law.specs.Words.{pick}
 use Rattle.page.specs.Geometry.{eeprom_size}
@@ -26,12 +27,9 @@ use Rattle.eeprom.specs.Frame.{own_address, opened_by, address_of, moved_on, aft
 use Rattle.eeprom.specs.Step.{write_ends, stop_in, end_of, powered_of, unpowered_of, step_of, voided_by, off_of}
 use Rattle.eeprom.specs.Side.{Side, side_start, side_bus, side_line}
 use Rattle.eeprom.specs.Good.{CounterGood, FrameGood, Waits, FrameIn, SentGood, count_of, Fields, ChipGood, Shut, Dark, Good}
+use Rattle.eeprom.specs.declared.Sent.{Sent}
 use Rattle.eeprom.specs.declared.EepromFrame.{EepromFrame}
 use Rattle.eeprom.specs.declared.EepromFrame.TheVariants.{Idle, Void, Opened, Addressed, Half, Taking, Reading}
-use Rattle.eeprom.specs.declared.EepromCycle.{EepromCycle}
-use Rattle.eeprom.specs.declared.EepromCycle.TheVariants.{None, Write}
-use Rattle.eeprom.specs.declared.EepromCounter.{EepromCounter}
-use Rattle.eeprom.specs.declared.EepromCounter.TheVariants.{Lost, At}
 use Rattle.eeprom.specs.declared.Eeprom.{Eeprom}
 use Rattle.eeprom.specs.declared.EepromStep.{EepromStep}
 use Rattle.page.specs.Laws.{rolled_small, sent_all_lem}
@@ -40,11 +38,11 @@ use Rattle.eeprom.proofs.Rolling.{next_low, next_small, counted_less, counted_sm
 abbrev StepGood : EepromStep → Type 0
 StepGood s = ChipGood s.chip
 
-abbrev chip : EepromFrame → EepromCycle → EepromCounter → List ℕ → Eeprom
+abbrev chip : EepromFrame → Option Sent → Option ℕ → List ℕ → Eeprom
 chip f c n p = record { frame = f; cycle = c; counter = n; page = p }
 
 -- ---- a page without data is blank
-module _ (f : EepromFrame) (n : EepromCounter) (p : List ℕ) (h : Fields f None n p) (none : count_of f ≡ 0) where
+module _ (f : EepromFrame) (n : Option ℕ) (p : List ℕ) (h : Fields f None n p) (none : count_of f ≡ 0) where
   all_empty : (q : ℕ) → q < 64 → get_or p q 0 ≡ 0
   all_empty q l =
       h.empty q l
@@ -58,7 +56,7 @@ module _ (f : EepromFrame) (n : EepromCounter) (p : List ℕ) (h : Fields f None
       all_empty q m ∙ sym (get_or-replicate {A = ℕ} 64 q 0 0 m))
 
   -- and stays so in another frame, with another counter
-  unsent : (g : EepromFrame) (m : EepromCounter) → FrameGood g m → CounterGood m → Fields g None m p
+  unsent : (g : EepromFrame) (m : Option ℕ) → FrameGood g m → CounterGood m → Fields g None m p
   unsent g m i j =
       record {
         in_frame = i;
@@ -68,7 +66,7 @@ module _ (f : EepromFrame) (n : EepromCounter) (p : List ℕ) (h : Fields f None
         empty = λ q l e. all_empty q l;
       }
 
-blank_good : (f : EepromFrame) (n : EepromCounter) → FrameGood f n → CounterGood n → Fields f None n blank
+blank_good : (f : EepromFrame) (n : Option ℕ) → FrameGood f n → CounterGood n → Fields f None n blank
 blank_good f n h k =
     record {
       in_frame = h;
@@ -78,9 +76,9 @@ blank_good f n h k =
       empty = λ q l e. get_or-replicate {A = ℕ} 64 q 0 0 l;
     }
 
-in_frame_good : (c : EepromCycle) (f g : EepromFrame) (n : EepromCounter) (p : List ℕ) → Fields g c n p → FrameIn c f n → ChipGood (in_frame (chip g c n p) f)
+in_frame_good : (c : Option Sent) (f g : EepromFrame) (n : Option ℕ) (p : List ℕ) → Fields g c n p → FrameIn c f n → ChipGood (in_frame (chip g c n p) f)
 in_frame_good None f g n p h k = blank_good f n k h.in_counter
-in_frame_good (Write s) f g n p h k =
+in_frame_good (Some s) f g n p h k =
     record {
       in_frame = k;
       in_cycle_lem = h.in_cycle_lem;
@@ -89,23 +87,23 @@ in_frame_good (Write s) f g n p h k =
       empty = h.empty;
     }
 
-void_in : (c : EepromCycle) (n : EepromCounter) → FrameIn c Void n
+void_in : (c : Option Sent) (n : Option ℕ) → FrameIn c Void n
 void_in None n = tt
-void_in (Write s) n = tt
+void_in (Some s) n = tt
 
-idle_in : (c : EepromCycle) (n : EepromCounter) → FrameIn c Idle n
+idle_in : (c : Option Sent) (n : Option ℕ) → FrameIn c Idle n
 idle_in None n = tt
-idle_in (Write s) n = tt
+idle_in (Some s) n = tt
 
-opened_in : (c : EepromCycle) (n : EepromCounter) → FrameIn c (Opened (running_of c)) n
+opened_in : (c : Option Sent) (n : Option ℕ) → FrameIn c (Opened (running_of c)) n
 opened_in None n = tt
-opened_in (Write s) n = tt
+opened_in (Some s) n = tt
 
 unless : (t : Bool) (a b : EepromStep) → StepGood a → (t ≡ false → StepGood b) → StepGood (pick t a b)
 unless true a b p q = p
 unless false a b p q = q refl
 
-by_address : (t : Bool) (n : EepromCounter) → FrameGood (pick t Reading Addressed) n
+by_address : (t : Bool) (n : Option ℕ) → FrameGood (pick t Reading Addressed) n
 by_address true n = tt
 by_address false n = tt
 
@@ -144,7 +142,7 @@ module _ (k p b : ℕ) (page : List ℕ) (small : k ≤ 64) (inside : p < eeprom
       let g : 64 ≤ counted k = full k small m in
       absurd (all_sent (next_in_page p) (counted k) q g e))
 
-  data_good : Fields (Taking k) None (At p) page → StepGood (data_byte (chip (Taking k) None (At p) page) k b)
+  data_good : Fields (Taking k) None (Some p) page → StepGood (data_byte (chip (Taking k) None (Some p) page) k b)
   data_good h =
       record {
         in_frame = (counted_small k, tt);
@@ -154,13 +152,13 @@ module _ (k p b : ℕ) (page : List ℕ) (small : k ≤ 64) (inside : p < eeprom
         empty = λ q l e. get_or-set_other page (p % 64) q b 0 (before q l e).1 ∙ h.empty q l (before q l e).0;
       }
 
-read_frame : (bit : Bool) (n : EepromCounter) → FrameGood (after_read bit) n
+read_frame : (bit : Bool) (n : Option ℕ) → FrameGood (after_read bit) n
 read_frame true n = tt
 read_frame false n = tt
 
-moved_good : (n : EepromCounter) → CounterGood n → CounterGood (moved_on n)
-moved_good Lost h = tt
-moved_good (At p) h = let l = rolled_small (eeprom_size - 1) p in omega arith
+moved_good : (n : Option ℕ) → CounterGood n → CounterGood (moved_on n)
+moved_good None h = tt
+moved_good (Some p) h = let l = rolled_small (eeprom_size - 1) p in omega arith
 
 address_small : (h b : ℕ) → address_of h b < eeprom_size
 address_small h b = omega arith
@@ -168,7 +166,7 @@ address_small h b = omega arith
 half_small : (b : ℕ) → b % 128 < 128
 half_small b = omega arith
 
-byte_good : (f : EepromFrame) (c : EepromCycle) (n : EepromCounter) (p : List ℕ) (b : ℕ) (bit : Bool) (w : ℕ) → Fields f c n p
+byte_good : (f : EepromFrame) (c : Option Sent) (n : Option ℕ) (p : List ℕ) (b : ℕ) (bit : Bool) (w : ℕ) → Fields f c n p
     → StepGood (byte_in f (chip f c n p) b bit w)
 byte_good Idle c n p b bit w h = h
 byte_good Void c n p b bit w h = h
@@ -181,17 +179,17 @@ byte_good (Opened false) None n p b bit w h =
     of_both StepGood (own_address b w) (answered (in_frame x (opened_by b)) Ack) (silent_in x Void)
     (in_frame_good None (opened_by b) (Opened false) n p h (by_address (eqb (b % 2) 1) n))
     (in_frame_good None Void (Opened false) n p h tt)
-byte_good (Opened false) (Write s) n p b bit w h = absurd h.in_frame
+byte_good (Opened false) (Some s) n p b bit w h = absurd h.in_frame
 byte_good Addressed None n p b bit w h = in_frame_good None (Half (b % 128)) Addressed n p h (half_small b)
-byte_good Addressed (Write s) n p b bit w h = absurd h.in_frame
-byte_good (Half high) None n p b bit w h = unsent (Half high) n p h refl (Taking 0) (At (address_of high b)) (omega arith, tt) (address_small high b)
-byte_good (Half high) (Write s) n p b bit w h = absurd h.in_frame
-byte_good (Taking k) None Lost p b bit w h = absurd h.in_frame.1
-byte_good (Taking k) None (At a) p b bit w h = data_good k a b p h.in_frame.0 h.in_counter h
-byte_good (Taking k) (Write s) n p b bit w h = absurd h.in_frame
+byte_good Addressed (Some s) n p b bit w h = absurd h.in_frame
+byte_good (Half high) None n p b bit w h = unsent (Half high) n p h refl (Taking 0) (Some (address_of high b)) (omega arith, tt) (address_small high b)
+byte_good (Half high) (Some s) n p b bit w h = absurd h.in_frame
+byte_good (Taking k) None None p b bit w h = absurd h.in_frame.1
+byte_good (Taking k) None (Some a) p b bit w h = data_good k a b p h.in_frame.0 h.in_counter h
+byte_good (Taking k) (Some s) n p b bit w h = absurd h.in_frame
 byte_good Reading None n p b bit w h =
     unsent Reading n p h refl (after_read bit) (moved_on n) (read_frame bit (moved_on n)) (moved_good n h.in_counter)
-byte_good Reading (Write s) n p b bit w h = absurd h.in_frame
+byte_good Reading (Some s) n p b bit w h = absurd h.in_frame
 
 -- ---- `sto`
 sent_good : (p k : ℕ) → p < eeprom_size → k ≤ 64 → (k ≡ 0 → ⊥) → SentGood (sent_by p k) p
@@ -206,12 +204,12 @@ sent_good p k h l z =
       past = λ m. rw (first_less p k m) (omega arith);
     }
 
-write_good : (n : EepromCounter) (k : ℕ) (p : List ℕ) (lock : Bool) → Fields (Taking k) None n p → StepGood (write_ends (chip (Taking k) None n p) k lock)
-write_good Lost k p lock h = absurd h.in_frame.1
-write_good (At a) k p lock h =
-    let x = chip (Taking k) None (At a) p in
-    let starts = answered (chip Idle (Write (sent_by a k)) (At a) p) Starts in
-    let idle = blank_good Idle (At a) tt h.in_counter in
+write_good : (n : Option ℕ) (k : ℕ) (p : List ℕ) (lock : Bool) → Fields (Taking k) None n p → StepGood (write_ends (chip (Taking k) None n p) k lock)
+write_good None k p lock h = absurd h.in_frame.1
+write_good (Some a) k p lock h =
+    let x = chip (Taking k) None (Some a) p in
+    let starts = answered (chip Idle (Some (sent_by a k)) (Some a) p) Starts in
+    let idle = blank_good Idle (Some a) tt h.in_counter in
     unless (eqb k 0) (silent_in x Idle) (pick lock (silent_in x Idle) starts) idle
     (λ e.
     of_both StepGood lock (silent_in x Idle) starts idle
@@ -223,18 +221,18 @@ write_good (At a) k p lock h =
       empty = h.empty;
     }))
 
-stop_good : (f : EepromFrame) (c : EepromCycle) (n : EepromCounter) (p : List ℕ) (lock : Bool) → Fields f c n p → StepGood (stop_in f (chip f c n p) lock)
+stop_good : (f : EepromFrame) (c : Option Sent) (n : Option ℕ) (p : List ℕ) (lock : Bool) → Fields f c n p → StepGood (stop_in f (chip f c n p) lock)
 stop_good Idle c n p lock h = in_frame_good c Idle Idle n p h (idle_in c n)
 stop_good Void c n p lock h = in_frame_good c Idle Void n p h (idle_in c n)
 stop_good (Opened b) c n p lock h = in_frame_good c Idle (Opened b) n p h (idle_in c n)
 stop_good Addressed c n p lock h = in_frame_good c Idle Addressed n p h (idle_in c n)
 stop_good (Half high) c n p lock h = in_frame_good c Idle (Half high) n p h (idle_in c n)
 stop_good (Taking k) None n p lock h = write_good n k p lock h
-stop_good (Taking k) (Write s) n p lock h = absurd h.in_frame
+stop_good (Taking k) (Some s) n p lock h = absurd h.in_frame
 stop_good Reading c n p lock h = in_frame_good c Idle Reading n p h (idle_in c n)
 
 -- ---- `end` and the supply
-waits_good : (f : EepromFrame) (n : EepromCounter) → Waits f → FrameGood f n
+waits_good : (f : EepromFrame) (n : Option ℕ) → Waits f → FrameGood f n
 waits_good Idle n h = tt
 waits_good Void n h = tt
 waits_good (Opened b) n h = tt
@@ -243,9 +241,9 @@ waits_good (Half high) n h = absurd h
 waits_good (Taking k) n h = absurd h
 waits_good Reading n h = tt
 
-end_good : (c : EepromCycle) (f : EepromFrame) (n : EepromCounter) (p : List ℕ) → Fields f c n p → StepGood (end_of (chip f c n p))
+end_good : (c : Option Sent) (f : EepromFrame) (n : Option ℕ) (p : List ℕ) → Fields f c n p → StepGood (end_of (chip f c n p))
 end_good None f n p h = h
-end_good (Write s) f n p h = blank_good f n (waits_good f n h.in_frame) h.in_counter
+end_good (Some s) f n p h = blank_good f n (waits_good f n h.in_frame) h.in_counter
 
 powered_good : (x : Eeprom) (e : EepromEvent) (lock : Bool) (w : ℕ) → ChipGood x → StepGood (powered_of x e lock w)
 powered_good x Start lock w h = in_frame_good x.cycle (Opened (running_of x.cycle)) x.frame x.counter x.page h (opened_in x.cycle x.counter)
@@ -274,7 +272,7 @@ voided_shut (Half high) = tt
 voided_shut (Taking k) = tt
 voided_shut Reading = tt
 
-shut_good : (f : EepromFrame) → Shut f → FrameGood f Lost
+shut_good : (f : EepromFrame) → Shut f → FrameGood f None
 shut_good Idle h = tt
 shut_good Void h = tt
 shut_good (Opened b) h = tt
@@ -284,7 +282,7 @@ shut_good (Taking k) h = absurd h
 shut_good Reading h = tt
 
 pub off_good : (x : Eeprom) → ChipGood (off_of x)
-off_good x = blank_good (voided_by x.frame) Lost (shut_good (voided_by x.frame) (voided_shut x.frame)) tt
+off_good x = blank_good (voided_by x.frame) None (shut_good (voided_by x.frame) (voided_shut x.frame)) tt
 
 pub off_dark : (x : Eeprom) → Dark (off_of x)
 off_dark x = record { shut = voided_shut x.frame; none = refl; lost = refl }
@@ -303,7 +301,7 @@ step_dark x e false lock w q h = unpowered_dark x e (h q)
 
 -- ---- THE THEOREMS: the start, a bus record and a line record
 pub good_start : Good side_start
-good_start = record { chip_good = blank_good Idle Lost tt tt; dark = λ e. absurd (true_not_false e) }
+good_start = record { chip_good = blank_good Idle None tt tt; dark = λ e. absurd (true_not_false e) }
 
 pub good_bus : (w : ℕ) (s : Side) (e : EepromEvent) → Good s → Good (side_bus w s e)
 good_bus w s e h =
@@ -330,6 +328,6 @@ good_line s LockOff h = record { chip_good = h.chip_good; dark = h.dark }
 pub in_cycle_waits : (x : Eeprom) → ChipGood x → running_of x.cycle ≡ true → Waits x.frame
 in_cycle_waits x h e = waits x.cycle x.frame x.counter h.in_frame e
   where
-    waits : (c : EepromCycle) (f : EepromFrame) (n : EepromCounter) → FrameIn c f n → running_of c ≡ true → Waits f
+    waits : (c : Option Sent) (f : EepromFrame) (n : Option ℕ) → FrameIn c f n → running_of c ≡ true → Waits f
     waits None f n k e = absurd (true_not_false (sym e))
-    waits (Write s) f n k e = k
+    waits (Some s) f n k e = k

@@ -10,6 +10,7 @@ use lib.Dec.{ltb}
 use lib.ListN.{length, get_or}
 use lib.Seq.{ext_get_or}
 use borrow.Author.Tests.{ltb-true, ltb-false, lt-ltb}
+use Rattle.std.specs.Prelude.{Option, Some, None}
 use Rattle.law.specs.Choice.{split, true_not_false}
 use Rattle.eeprom.specs.Chip.{running_of, place_of}
 use Rattle.page.specs.Rolling.{sent_place}
@@ -18,12 +19,9 @@ use Rattle.eeprom.specs.Good.{FrameGood, Waits, FrameIn, SentGood, CycleIn, coun
 use Rattle.eeprom.specs.declared.Sent.{Sent}
 use Rattle.eeprom.specs.declared.EepromFrame.{EepromFrame}
 use Rattle.eeprom.specs.declared.EepromFrame.TheVariants.{Idle, Void, Opened, Addressed, Half, Taking, Reading}
-use Rattle.eeprom.specs.declared.EepromCycle.{EepromCycle}
-use Rattle.eeprom.specs.declared.EepromCycle.TheVariants.{None, Write}
-use Rattle.eeprom.specs.declared.EepromCounter.{EepromCounter}
 use Rattle.eeprom.specs.declared.Eeprom.{Eeprom}
 use Rattle.eeprom.proofs.Rolling.{first_less}
-use Rattle.eeprom.proofs.ByNumbers.{chip_cong, sent_cong}
+use Rattle.eeprom.proofs.ByParts.{chip_cong, sent_cong}
 use Rattle.eeprom.proofs.Bounds.{is_next}
 
 -- the same places were sent
@@ -153,9 +151,9 @@ frame_back (Half h) = refl
 frame_back (Taking k) = refl
 frame_back Reading = refl
 
-abbrev pub page_number : EepromCycle → ℕ
+abbrev pub page_number : Option Sent → ℕ
 page_number None = 0
-page_number (Write s) = s.page
+page_number (Some s) = s.page
 
 abbrev pub sent_of : Eeprom → Sent
 sent_of x = sent_in x.cycle x.frame x.counter
@@ -169,7 +167,7 @@ pub record Alike (x y : Eeprom) : Type 0 where
   pub places : SamePlaces (sent_of x) (sent_of y)
   pub bytes : (q : ℕ) → q < 64 → sent_place 64 (sent_of x).first (sent_of x).count q ≡ true → get_or x.page q 0 ≡ get_or y.page q 0
 
-count_small : (f : EepromFrame) (n : EepromCounter) → FrameGood f n → count_of f ≤ 64
+count_small : (f : EepromFrame) (n : Option ℕ) → FrameGood f n → count_of f ≤ 64
 count_small Idle n h = omega arith
 count_small Void n h = omega arith
 count_small (Opened b) n h = omega arith
@@ -188,13 +186,13 @@ count_none (Taking k) h = absurd h
 count_none Reading h = refl
 
 -- the cycles are the same, and so are the counts of the frames
-parts_same : (c d : EepromCycle) (f g : EepromFrame) (n : EepromCounter) → FrameIn c f n → FrameIn d g n → CycleIn c n → CycleIn d n
+parts_same : (c d : Option Sent) (f g : EepromFrame) (n : Option ℕ) → FrameIn c f n → FrameIn d g n → CycleIn c n → CycleIn d n
     → running_of c ≡ running_of d → page_number c ≡ page_number d → SamePlaces (sent_in c f n) (sent_in d g n) → (c ≡ d) × (count_of f ≡ count_of g)
 parts_same None None f g n hf hg hc hd r e same = (refl, count_decides (place_of n) (count_of f) (count_of g) (count_small f n hf) (count_small g n hg) same)
-parts_same None (Write t) f g n hf hg hc hd r e same = absurd (true_not_false (sym r))
-parts_same (Write s) None f g n hf hg hc hd r e same = absurd (true_not_false r)
-parts_same (Write s) (Write t) f g n hf hg hc hd r e same =
-    (ap Write (places_decide s t (place_of n) (place_of n) hc hd e same), count_none f hf ∙ sym (count_none g hg))
+parts_same None (Some t) f g n hf hg hc hd r e same = absurd (true_not_false (sym r))
+parts_same (Some s) None f g n hf hg hc hd r e same = absurd (true_not_false r)
+parts_same (Some s) (Some t) f g n hf hg hc hd r e same =
+    (ap Some (places_decide s t (place_of n) (place_of n) hc hd e same), count_none f hf ∙ sym (count_none g hg))
 
 page_same : (s t : Sent) (p r : List ℕ) → length p ≡ 64 → length r ≡ 64
     → ((q : ℕ) → q < 64 → sent_place 64 s.first s.count q ≡ false → get_or p q 0 ≡ 0) → ((q : ℕ) → q < 64 → sent_place 64 t.first t.count q ≡ false → get_or r q 0 ≡ 0)
@@ -210,9 +208,9 @@ canonical x y h k a =
     let e = sym a.counters in
     let both
     = parts_same x.cycle y.cycle x.frame y.frame x.counter h.in_frame
-    (subst (λ (n : EepromCounter). FrameIn y.cycle y.frame n) e k.in_frame) h.in_cycle_lem
-    (subst (λ (n : EepromCounter). CycleIn y.cycle n) e k.in_cycle_lem) a.cycles a.pages
-    (subst (λ (n : EepromCounter). SamePlaces (sent_of x) (sent_in y.cycle y.frame n)) e a.places) in
+    (subst (λ (n : Option ℕ). FrameIn y.cycle y.frame n) e k.in_frame) h.in_cycle_lem
+    (subst (λ (n : Option ℕ). CycleIn y.cycle n) e k.in_cycle_lem) a.cycles a.pages
+    (subst (λ (n : Option ℕ). SamePlaces (sent_of x) (sent_in y.cycle y.frame n)) e a.places) in
     let f : x.frame ≡ y.frame
     = sym (frame_back x.frame) ∙ ap (λ (m : ℕ). with_count m (kind_of x.frame)) both.1
     ∙ ap (λ (z : EepromFrame). with_count (count_of y.frame) z) a.kinds ∙ frame_back y.frame in

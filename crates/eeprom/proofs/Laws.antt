@@ -6,6 +6,7 @@ use mathlib.Core.Path.{◌≡◌, refl, sym, subst}
 use mathlib.Core.Logic.{◌⊎◌, inl, inr}
 use mathlib.Core.List.{List}
 use lib.Dec.{eqb}
+use Rattle.std.specs.Prelude.{Option, Some, None}
 use Rattle.law.specs.Choice.{of_both}
 use Rattle.law.specs.Words.{pick}
 use Rattle.tied.specs.Control.{Lawful, Cycle, idle, runs, Kind, starts, ends, fetches, plain}
@@ -21,12 +22,9 @@ use Rattle.eeprom.specs.Step.{write_ends, stop_in, end_of, powered_of, unpowered
 use Rattle.eeprom.specs.Side.{Side, side_bus, side_says}
 use Rattle.eeprom.specs.Good.{Waits, FrameIn, Fields, ChipGood, Shut, Dark, Good}
 use Rattle.eeprom.specs.Told.{Writing, runs_in, runs_of, Told, told, cycle_told, hint_told, FrameTold, CounterTold, Tracks, eeprom_control}
+use Rattle.eeprom.specs.declared.Sent.{Sent}
 use Rattle.eeprom.specs.declared.EepromFrame.{EepromFrame}
 use Rattle.eeprom.specs.declared.EepromFrame.TheVariants.{Idle, Void, Opened, Addressed, Half, Taking, Reading}
-use Rattle.eeprom.specs.declared.EepromCycle.{EepromCycle}
-use Rattle.eeprom.specs.declared.EepromCycle.TheVariants.{None, Write}
-use Rattle.eeprom.specs.declared.EepromCounter.{EepromCounter}
-use Rattle.eeprom.specs.declared.EepromCounter.TheVariants.{Lost, At}
 use Rattle.eeprom.specs.declared.Eeprom.{Eeprom}
 use Rattle.eeprom.specs.declared.EepromStep.{EepromStep}
 use Rattle.eeprom.proofs.Bounds.{is_blank, off_dark, good_bus, good_line}
@@ -44,12 +42,12 @@ record Keeps (x : Eeprom) (t : Told) (e : EepromEvent) (s : EepromStep) : Type 0
   tracks : Tracks s.chip (told t e s.reply)
   tells : Telling s.reply (hint_told t e)
 
-abbrev chip : EepromFrame → EepromCycle → EepromCounter → List ℕ → Eeprom
+abbrev chip : EepromFrame → Option Sent → Option ℕ → List ℕ → Eeprom
 chip f c n p = record { frame = f; cycle = c; counter = n; page = p }
 
-kept : (c : EepromCycle) (p : List ℕ) → runs_in c (page_in c p) ≡ runs_in c p
+kept : (c : Option Sent) (p : List ℕ) → runs_in c (page_in c p) ≡ runs_in c p
 kept None p = refl
-kept (Write s) p = refl
+kept (Some s) p = refl
 
 is_idle : Cycle Writing → Type 0
 is_idle idle = Unit {0}
@@ -64,19 +62,19 @@ module _ (x : Eeprom) (t : Told) (e : EepromEvent) (s : EepromStep) where
   in_told : (f : EepromFrame) → t.frame ≡ f → Keeps x (record { frame = f; counter = t.counter; page = t.page }) e s → Keeps x t e s
   in_told f q k = subst (λ (u : Told). Keeps x u e s) (λ i. record { frame = sym q i; counter = t.counter; page = t.page }) k
 
-  at_told : (f : EepromFrame) (n : EepromCounter) → t.frame ≡ f → t.counter ≡ n → Keeps x (record { frame = f; counter = n; page = t.page }) e s → Keeps x t e s
+  at_told : (f : EepromFrame) (n : Option ℕ) → t.frame ≡ f → t.counter ≡ n → Keeps x (record { frame = f; counter = n; page = t.page }) e s → Keeps x t e s
   at_told f n q r k = subst (λ (u : Told). Keeps x u e s) (λ i. record { frame = sym q i; counter = sym r i; page = t.page }) k
 
-  all_told : (f : EepromFrame) (n : EepromCounter) (p : List ℕ) → t.frame ≡ f → t.counter ≡ n → t.page ≡ p
+  all_told : (f : EepromFrame) (n : Option ℕ) (p : List ℕ) → t.frame ≡ f → t.counter ≡ n → t.page ≡ p
       → Keeps x (record { frame = f; counter = n; page = p }) e s → Keeps x t e s
   all_told f n p q r v k = subst (λ (u : Told). Keeps x u e s) (λ i. record { frame = sym q i; counter = sym r i; page = sym v i }) k
 
 -- ---- a byte
-by_address : (t : Bool) (p : List ℕ) (n : EepromCounter) → FrameTold (pick t Reading Addressed) p (record { frame = pick t Reading Addressed; counter = n; page = blank })
+by_address : (t : Bool) (p : List ℕ) (n : Option ℕ) → FrameTold (pick t Reading Addressed) p (record { frame = pick t Reading Addressed; counter = n; page = blank })
 by_address true p n = refl
 by_address false p n = refl
 
-read_told : (bit : Bool) (p q : List ℕ) (n : EepromCounter) → FrameTold (after_read bit) p (record { frame = Reading; counter = n; page = q })
+read_told : (bit : Bool) (p q : List ℕ) (n : Option ℕ) → FrameTold (after_read bit) p (record { frame = Reading; counter = n; page = q })
 read_told true p q n = tt
 read_told false p q n = refl
 
@@ -100,7 +98,7 @@ module _ (b : ℕ) (bit : Bool) (w : ℕ) where
         tells = tt;
       })
 
-  byte_keeps : (f : EepromFrame) (c : EepromCycle) (n : EepromCounter) (p : List ℕ) (t : Told) → Fields f c n p → FrameTold f p t → CounterTold n t.counter
+  byte_keeps : (f : EepromFrame) (c : Option Sent) (n : Option ℕ) (p : List ℕ) (t : Told) → Fields f c n p → FrameTold f p t → CounterTold n t.counter
       → Keeps (chip f c n p) t (Byte b bit) (byte_in f (chip f c n p) b bit w)
   unfolding Telling
   byte_keeps Idle c n p t h q k = record { says = refl; tracks = record { frame_told = tt; counter_told = k }; tells = tt }
@@ -117,46 +115,46 @@ module _ (b : ℕ) (bit : Bool) (w : ℕ) where
   byte_keeps (Half high) None n p t h q k =
       in_told (chip (Half high) None n p) t (Byte b bit) (byte_in (Half high) (chip (Half high) None n p) b bit w) (Half high) q
       (record { says = refl; tracks = record { frame_told = (refl, sym (is_blank (Half high) n p h refl)); counter_told = refl }; tells = tt })
-  byte_keeps (Half high) (Write s) n p t h q k = absurd h.in_frame
-  byte_keeps (Taking m) None Lost p t h q k = absurd h.in_frame.1
-  byte_keeps (Taking m) None (At a) p t h q k =
-      all_told (chip (Taking m) None (At a) p) t (Byte b bit) (byte_in (Taking m) (chip (Taking m) None (At a) p) b bit w) (Taking m) (At a) p q.0 k q.1
+  byte_keeps (Half high) (Some s) n p t h q k = absurd h.in_frame
+  byte_keeps (Taking m) None None p t h q k = absurd h.in_frame.1
+  byte_keeps (Taking m) None (Some a) p t h q k =
+      all_told (chip (Taking m) None (Some a) p) t (Byte b bit) (byte_in (Taking m) (chip (Taking m) None (Some a) p) b bit w) (Taking m) (Some a) p q.0 k q.1
       (record { says = refl; tracks = record { frame_told = (refl, refl); counter_told = refl }; tells = tt })
-  byte_keeps (Taking m) (Write s) n p t h q k = absurd h.in_frame
-  byte_keeps Reading None Lost p t h q k =
-      in_told (chip Reading None Lost p) t (Byte b bit) (byte_in Reading (chip Reading None Lost p) b bit w) Reading q
+  byte_keeps (Taking m) (Some s) n p t h q k = absurd h.in_frame
+  byte_keeps Reading None None p t h q k =
+      in_told (chip Reading None None p) t (Byte b bit) (byte_in Reading (chip Reading None None p) b bit w) Reading q
       (record { says = refl; tracks = record { frame_told = read_told bit p t.page t.counter; counter_told = tt }; tells = tt })
-  byte_keeps Reading None (At a) p t h q k =
-      at_told (chip Reading None (At a) p) t (Byte b bit) (byte_in Reading (chip Reading None (At a) p) b bit w) Reading (At a) q k
-      (record { says = (refl, refl); tracks = record { frame_told = read_told bit p t.page (moved_on (At a)); counter_told = refl }; tells = refl })
-  byte_keeps Reading (Write s) n p t h q k = absurd h.in_frame
+  byte_keeps Reading None (Some a) p t h q k =
+      at_told (chip Reading None (Some a) p) t (Byte b bit) (byte_in Reading (chip Reading None (Some a) p) b bit w) Reading (Some a) q k
+      (record { says = (refl, refl); tracks = record { frame_told = read_told bit p t.page (moved_on (Some a)); counter_told = refl }; tells = refl })
+  byte_keeps Reading (Some s) n p t h q k = absurd h.in_frame
 
 -- ---- `sto`
 idle_keeps : (x : Eeprom) (t : Told) → CounterTold x.counter t.counter → Keeps x t Stop (silent_in x Idle)
 unfolding Telling
 idle_keeps x t k = record { says = kept x.cycle x.page; tracks = record { frame_told = tt; counter_told = k }; tells = tt }
 
-write_keeps : (m a : ℕ) (p : List ℕ) (t : Told) (lock : Bool) → FrameTold (Taking m) p t → CounterTold (At a) t.counter
-    → Keeps (chip (Taking m) None (At a) p) t Stop (write_ends (chip (Taking m) None (At a) p) m lock)
+write_keeps : (m a : ℕ) (p : List ℕ) (t : Told) (lock : Bool) → FrameTold (Taking m) p t → CounterTold (Some a) t.counter
+    → Keeps (chip (Taking m) None (Some a) p) t Stop (write_ends (chip (Taking m) None (Some a) p) m lock)
 unfolding Telling
 write_keeps m a p t lock q k =
-    let x = chip (Taking m) None (At a) p in
-    let begins = answered (chip Idle (Write (sent_by a m)) (At a) p) Starts in
+    let x = chip (Taking m) None (Some a) p in
+    let begins = answered (chip Idle (Some (sent_by a m)) (Some a) p) Starts in
     of_both (Keeps x t Stop) (eqb m 0) (silent_in x Idle) (pick lock (silent_in x Idle) begins) (idle_keeps x t k)
     (of_both (Keeps x t Stop) lock (silent_in x Idle) begins (idle_keeps x t k)
-    (all_told x t Stop begins (Taking m) (At a) p q.0 k q.1
+    (all_told x t Stop begins (Taking m) (Some a) p q.0 k q.1
     (record { says = (refl, refl); tracks = record { frame_told = tt; counter_told = refl }; tells = tt })))
 
-stop_keeps : (f : EepromFrame) (c : EepromCycle) (n : EepromCounter) (p : List ℕ) (t : Told) (lock : Bool) → Fields f c n p → FrameTold f p t → CounterTold n t.counter
+stop_keeps : (f : EepromFrame) (c : Option Sent) (n : Option ℕ) (p : List ℕ) (t : Told) (lock : Bool) → Fields f c n p → FrameTold f p t → CounterTold n t.counter
     → Keeps (chip f c n p) t Stop (stop_in f (chip f c n p) lock)
 stop_keeps Idle c n p t lock h q k = idle_keeps (chip Idle c n p) t k
 stop_keeps Void c n p t lock h q k = idle_keeps (chip Void c n p) t k
 stop_keeps (Opened barred) c n p t lock h q k = idle_keeps (chip (Opened barred) c n p) t k
 stop_keeps Addressed c n p t lock h q k = idle_keeps (chip Addressed c n p) t k
 stop_keeps (Half high) c n p t lock h q k = idle_keeps (chip (Half high) c n p) t k
-stop_keeps (Taking m) None Lost p t lock h q k = absurd h.in_frame.1
-stop_keeps (Taking m) None (At a) p t lock h q k = write_keeps m a p t lock q k
-stop_keeps (Taking m) (Write s) n p t lock h q k = absurd h.in_frame
+stop_keeps (Taking m) None None p t lock h q k = absurd h.in_frame.1
+stop_keeps (Taking m) None (Some a) p t lock h q k = write_keeps m a p t lock q k
+stop_keeps (Taking m) (Some s) n p t lock h q k = absurd h.in_frame
 stop_keeps Reading c n p t lock h q k = idle_keeps (chip Reading c n p) t k
 
 -- ---- `end`: a frame that waits in a cycle is told without the page
@@ -169,11 +167,11 @@ waits_told (Half high) p q t h k = k
 waits_told (Taking m) p q t h k = absurd h
 waits_told Reading p q t h k = k
 
-end_keeps : (c : EepromCycle) (f : EepromFrame) (n : EepromCounter) (p : List ℕ) (t : Told) → FrameIn c f n → FrameTold f p t → CounterTold n t.counter
+end_keeps : (c : Option Sent) (f : EepromFrame) (n : Option ℕ) (p : List ℕ) (t : Told) → FrameIn c f n → FrameTold f p t → CounterTold n t.counter
     → Keeps (chip f c n p) t End (end_of (chip f c n p))
 unfolding Telling
 end_keeps None f n p t h q k = record { says = refl; tracks = record { frame_told = q; counter_told = k }; tells = tt }
-end_keeps (Write s) f n p t h q k =
+end_keeps (Some s) f n p t h q k =
     record {
       says = (never_idle (record { sent = s; bytes = p }), refl);
       tracks = record { frame_told = waits_told f p blank t h q; counter_told = k };
@@ -204,7 +202,7 @@ dark_tracks : (x : Eeprom) (t : Told) → Dark x → Tracks x t
 dark_tracks x t h =
     record {
       frame_told = shut_told x.frame x.page t h.shut;
-      counter_told = subst (λ (n : EepromCounter). CounterTold n t.counter) (sym h.lost) tt;
+      counter_told = subst (λ (n : Option ℕ). CounterTold n t.counter) (sym h.lost) tt;
     }
 
 unpowered_keeps : (x : Eeprom) (t : Told) (e : EepromEvent) → Dark x → Tracks x t → Keeps x t e (unpowered_of x e)
@@ -230,7 +228,7 @@ barless (Half high) = Half high
 barless (Taking m) = Taking m
 barless Reading = Reading
 
-frame_some : (f : EepromFrame) (n : EepromCounter) (p : List ℕ) → FrameTold f p (record { frame = barless f; counter = n; page = p })
+frame_some : (f : EepromFrame) (n : Option ℕ) (p : List ℕ) → FrameTold f p (record { frame = barless f; counter = n; page = p })
 unfolding barless
 frame_some Idle n p = tt
 frame_some Void n p = tt
@@ -240,9 +238,9 @@ frame_some (Half high) n p = refl
 frame_some (Taking m) n p = (refl, refl)
 frame_some Reading n p = refl
 
-counter_some : (n : EepromCounter) → CounterTold n n
-counter_some Lost = tt
-counter_some (At a) = refl
+counter_some : (n : Option ℕ) → CounterTold n n
+counter_some None = tt
+counter_some (Some a) = refl
 
 some_told : (x : Eeprom) → (t : Told) × Tracks x t
 some_told x = (

@@ -1,5 +1,5 @@
 -- The theorems about the rules, and what the proofs of the code share.
-pub mod ByNumbers
+pub mod ByParts
 pub mod Rolling
 pub mod Bounds
 pub mod Canonical

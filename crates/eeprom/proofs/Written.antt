@@ -9,6 +9,7 @@ use mathlib.Core.List.{List, [], ◌∷◌, ◌++◌}
 use lib.Dec.{ltb, eqb}
 use lib.ListN.{length, get_or, set, length-replicate}
 use borrow.Author.Tests.{ltb-true, ltb-false, le-ltb, ne_eqb}
+use Rattle.std.specs.Prelude.{Option, Some, None}
 use Rattle.law.specs.Choice.{split}
 use Rattle.law.specs.Words.{pick}
 use Rattle.page.specs.Geometry.{eeprom_size}
@@ -24,12 +25,9 @@ use Rattle.eeprom.specs.Step.{write_ends, stop_of, step_of}
 use Rattle.eeprom.specs.declared.Sent.{Sent}
 use Rattle.eeprom.specs.declared.EepromFrame.{EepromFrame}
 use Rattle.eeprom.specs.declared.EepromFrame.TheVariants.{Idle, Opened, Addressed, Taking}
-use Rattle.eeprom.specs.declared.EepromCycle.TheVariants.{None, Write}
-use Rattle.eeprom.specs.declared.EepromCounter.{EepromCounter}
-use Rattle.eeprom.specs.declared.EepromCounter.TheVariants.{At}
 use Rattle.eeprom.specs.declared.Eeprom.{Eeprom}
 use Rattle.eeprom.specs.declared.EepromStep.{EepromStep}
-use Rattle.eeprom.proofs.ByNumbers.{sent_cong}
+use Rattle.eeprom.proofs.ByParts.{sent_cong}
 use Rattle.eeprom.proofs.Rolling.{next_low, next_small, counted_less, counted_all, counted_small}
 
 -- no more than 64
@@ -38,7 +36,7 @@ up_to n = pick (ltb n 64) n 64
 
 -- the chip in a write frame with so many data bytes
 abbrev pub taking : ℕ → ℕ → List ℕ → Eeprom
-taking k p page = record { frame = Taking k; cycle = None; counter = At p; page = page }
+taking k p page = record { frame = Taking k; cycle = None; counter = Some p; page = page }
 
 -- bytes with the supply on; the lock, the wired address and the acknowledge bit are the same for all of them
 unfoldable pub takes : Bool → ℕ → Bool → Eeprom → List ℕ → Eeprom
@@ -92,15 +90,15 @@ some_sent n h =
     (λ t. simp (t))
 
 ended : (k p : ℕ) (page : List ℕ) (s : Sent) → eqb k 0 ≡ false → sent_by p k ≡ s
-    → write_ends (taking k p page) k false ≡ answered (record { frame = Idle; cycle = Write s; counter = At p; page = page }) Starts
+    → write_ends (taking k p page) k false ≡ answered (record { frame = Idle; cycle = Some s; counter = Some p; page = page }) Starts
 ended k p page s e g = simp (e, g)
 
 -- the chip that writes these data bytes from the place a on
 abbrev pub writing : ℕ → List ℕ → Eeprom
 writing a ds = record {
   frame = Idle;
-  cycle = Write (write_of a (length ds));
-  counter = At (place_after 64 a (length ds));
+  cycle = Some (write_of a (length ds));
+  counter = Some (place_after 64 a (length ds));
   page = roll 64 (a % 64) ds blank;
 }
 
@@ -123,11 +121,11 @@ pub later_stays : (a : ℕ) (before : List ℕ) (d : ℕ) (later : List ℕ) →
 later_stays a before d later none = roll_sent 64 (a % 64) before blank d later (omega arith) (length-replicate {A = ℕ} 64 0) none
 
 -- `sta`, the own address for writing and two address bytes, with no cycle
-own_write : (n : EepromCounter) (page : List ℕ) (b w : ℕ) → own_address b w ≡ true → eqb (b % 2) 1 ≡ false
+own_write : (n : Option ℕ) (page : List ℕ) (b w : ℕ) → own_address b w ≡ true → eqb (b % 2) 1 ≡ false
     → address_byte (record { frame = Opened false; cycle = None; counter = n; page = page }) false b w ≡ answered (in_frame (record { frame = Opened false; cycle = None; counter = n; page = page }) Addressed) Ack
 own_write n page b w e g = simp (e, g)
 
-pub address_taken : (f : EepromFrame) (n : EepromCounter) (page : List ℕ) (lock bit : Bool) (w b high low : ℕ) → own_address b w ≡ true → eqb (b % 2) 1 ≡ false
+pub address_taken : (f : EepromFrame) (n : Option ℕ) (page : List ℕ) (lock bit : Bool) (w b high low : ℕ) → own_address b w ≡ true → eqb (b % 2) 1 ≡ false
     → takes lock w bit (step_of (record { frame = f; cycle = None; counter = n; page = page }) Start (record { supply = true; lock = lock }) w).chip (b ∷ high ∷ low ∷ [])
     ≡ taking 0 (address_of (high % 128) low) blank
 unfolding takes

@@ -1,5 +1,5 @@
 -- Believed: The bytes of a frame with the supply on (document 01, 'EEPROM rules').
-use Rattle.std.specs.Prelude.{ℕ, ◌+◌, ◌-◌, ◌*◌, ◌/◌, ◌%◌, Bool, true, false, eqb}
+use Rattle.std.specs.Prelude.{ℕ, ◌+◌, ◌-◌, ◌*◌, ◌/◌, ◌%◌, Bool, true, false, eqb, Option, Some, None}
 use Rattle.law.specs.Words.{pick}
 use Rattle.page.specs.Geometry.{eeprom_size}
 use Rattle.page.specs.Rolling.{rolled_in}
@@ -9,8 +9,6 @@ use Rattle.eeprom.specs.Chip.{answered, in_frame, silent_in, place_of}
 use Rattle.eeprom.specs.Write.{next_in_page, put_byte, counted}
 use Rattle.eeprom.specs.declared.EepromFrame.{EepromFrame}
 use Rattle.eeprom.specs.declared.EepromFrame.TheVariants.{Idle, Void, Opened, Addressed, Half, Taking, Reading}
-use Rattle.eeprom.specs.declared.EepromCounter.{EepromCounter}
-use Rattle.eeprom.specs.declared.EepromCounter.TheVariants.{Lost, At}
 use Rattle.eeprom.specs.declared.Eeprom.{Eeprom}
 use Rattle.eeprom.specs.declared.EepromStep.{EepromStep}
 
@@ -40,7 +38,7 @@ high_byte x b = answered (in_frame x (Half (b % 128))) Ack
 
 -- taken when both are in
 abbrev pub low_byte : Eeprom → ℕ → ℕ → EepromStep
-low_byte x high b = answered (record { frame = Taking 0; cycle = x.cycle; counter = At (address_of high b); page = x.page }) Ack
+low_byte x high b = answered (record { frame = Taking 0; cycle = x.cycle; counter = Some (address_of high b); page = x.page }) Ack
 
 -- data goes to the counter's place, and the counter, in the page's own rolling, past it; it is acknowledged whatever the lock
 abbrev pub data_byte : Eeprom → ℕ → ℕ → EepromStep
@@ -49,21 +47,21 @@ data_byte x n b =
     (record {
       frame = Taking (counted n);
       cycle = x.cycle;
-      counter = At (next_in_page (place_of x.counter));
+      counter = Some (next_in_page (place_of x.counter));
       page = put_byte (place_of x.counter) b x.page;
     })
     Ack
 
 -- ---- Read
 -- the byte at the counter; a lost counter gives silence
-abbrev pub fetch_of : EepromCounter → Skeleton
-fetch_of Lost = Silent
-fetch_of (At p) = Fetch p
+abbrev pub fetch_of : Option ℕ → Skeleton
+fetch_of None = Silent
+fetch_of (Some p) = Fetch p
 
 -- which then goes on, 7fff to 0000
-abbrev pub moved_on : EepromCounter → EepromCounter
-moved_on Lost = Lost
-moved_on (At p) = At (rolled_in (eeprom_size - 1) p)
+abbrev pub moved_on : Option ℕ → Option ℕ
+moved_on None = None
+moved_on (Some p) = Some (rolled_in (eeprom_size - 1) p)
 
 -- a 1 acknowledge bit voids the frame
 abbrev pub after_read : Bool → EepromFrame

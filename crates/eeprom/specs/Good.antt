@@ -1,5 +1,5 @@
 -- What every state keeps that is reached from the start.
-use Rattle.std.specs.Prelude.{ℕ, ◌+◌, ◌/◌, ◌%◌, ◌<◌, ◌≤◌, true, false, ◌≡◌, List, length, get_or}
+use Rattle.std.specs.Prelude.{ℕ, ◌+◌, ◌/◌, ◌%◌, ◌<◌, ◌≤◌, true, false, ◌≡◌, List, length, get_or, Option, Some, None}
 use Rattle.page.specs.Geometry.{eeprom_page, eeprom_size}
 use Rattle.page.specs.Rolling.{sent_place}
 use Rattle.eeprom.specs.Chip.{place_of}
@@ -8,23 +8,19 @@ use Rattle.eeprom.specs.Side.{Side}
 use Rattle.eeprom.specs.declared.Sent.{Sent}
 use Rattle.eeprom.specs.declared.EepromFrame.{EepromFrame}
 use Rattle.eeprom.specs.declared.EepromFrame.TheVariants.{Idle, Void, Opened, Addressed, Half, Taking, Reading}
-use Rattle.eeprom.specs.declared.EepromCycle.{EepromCycle}
-use Rattle.eeprom.specs.declared.EepromCycle.TheVariants.{None, Write}
-use Rattle.eeprom.specs.declared.EepromCounter.{EepromCounter}
-use Rattle.eeprom.specs.declared.EepromCounter.TheVariants.{Lost, At}
 use Rattle.eeprom.specs.declared.Eeprom.{Eeprom}
 
 -- the counter is lost or a place of the chip
-abbrev pub CounterGood : EepromCounter → Type 0
-CounterGood Lost = Unit {0}
-CounterGood (At p) = p < eeprom_size
+abbrev pub CounterGood : Option ℕ → Type 0
+CounterGood None = Unit {0}
+CounterGood (Some p) = p < eeprom_size
 
-abbrev pub Known : EepromCounter → Type 0
-Known Lost = ⊥
-Known (At p) = Unit {0}
+abbrev pub Known : Option ℕ → Type 0
+Known None = ⊥
+Known (Some p) = Unit {0}
 
 -- with no cycle: a frame that takes data has a counter
-abbrev pub FrameGood : EepromFrame → EepromCounter → Type 0
+abbrev pub FrameGood : EepromFrame → Option ℕ → Type 0
 FrameGood Idle n = Unit {0}
 FrameGood Void n = Unit {0}
 FrameGood (Opened barred) n = Unit {0}
@@ -44,9 +40,9 @@ Waits (Half high) = ⊥
 Waits (Taking k) = ⊥
 Waits Reading = ⊥
 
-abbrev pub FrameIn : EepromCycle → EepromFrame → EepromCounter → Type 0
+abbrev pub FrameIn : Option Sent → EepromFrame → Option ℕ → Type 0
 FrameIn None f n = FrameGood f n
-FrameIn (Write s) f n = Waits f
+FrameIn (Some s) f n = Waits f
 
 -- the places of a cycle, one or more of one page, and the place p of the counter: one past the last, in the page's own rolling
 pub record SentGood (s : Sent) (p : ℕ) : Type 0 where
@@ -58,9 +54,9 @@ pub record SentGood (s : Sent) (p : ℕ) : Type 0 where
   pub here : p / eeprom_page ≡ s.page
   pub past : s.count < eeprom_page → p % eeprom_page ≡ (s.first + s.count) % eeprom_page
 
-abbrev pub CycleIn : EepromCycle → EepromCounter → Type 0
+abbrev pub CycleIn : Option Sent → Option ℕ → Type 0
 CycleIn None n = Unit {0}
-CycleIn (Write s) n = SentGood s (place_of n)
+CycleIn (Some s) n = SentGood s (place_of n)
 
 -- the data bytes that a frame has
 abbrev pub count_of : EepromFrame → ℕ
@@ -73,12 +69,12 @@ count_of (Taking k) = k
 count_of Reading = 0
 
 -- the places for which the page holds bytes
-abbrev pub sent_in : EepromCycle → EepromFrame → EepromCounter → Sent
+abbrev pub sent_in : Option Sent → EepromFrame → Option ℕ → Sent
 sent_in None f n = sent_by (place_of n) (count_of f)
-sent_in (Write s) f n = s
+sent_in (Some s) f n = s
 
 -- a chip, by its parts: the page holds 0 where nothing was sent
-pub record Fields (f : EepromFrame) (c : EepromCycle) (n : EepromCounter) (p : List ℕ) : Type 0 where
+pub record Fields (f : EepromFrame) (c : Option Sent) (n : Option ℕ) (p : List ℕ) : Type 0 where
   pub in_frame : FrameIn c f n
   pub in_cycle_lem : CycleIn c n
   pub in_counter : CounterGood n
@@ -102,7 +98,7 @@ Shut Reading = ⊥
 pub record Dark (x : Eeprom) : Type 0 where
   pub shut : Shut x.frame
   pub none : x.cycle ≡ None
-  pub lost : x.counter ≡ Lost
+  pub lost : x.counter ≡ None
 
 pub record Good (s : Side) : Type 0 where
   pub chip_good : ChipGood s.chip

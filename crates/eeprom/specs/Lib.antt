@@ -4,6 +4,5 @@ pub mod Write
 pub mod Frame
 pub mod Step
 pub mod Side
-pub mod Same
 pub mod Good
 pub mod Told

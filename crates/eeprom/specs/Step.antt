@@ -1,5 +1,5 @@
 -- Believed: One record of channel E, and what a line record does to the chip (document 01, 'EEPROM rules', 'Supply').
-use Rattle.std.specs.Prelude.{ℕ, Bool, eqb}
+use Rattle.std.specs.Prelude.{ℕ, Bool, eqb, Some, None}
 use Rattle.law.specs.Words.{pick}
 use Rattle.record.specs.LineRules.{goes_off}
 use Rattle.record.specs.declared.Skeleton.TheVariants.{Silent, Starts, Ends, NoCycle}
@@ -12,8 +12,6 @@ use Rattle.eeprom.specs.Write.{sent_by}
 use Rattle.eeprom.specs.Frame.{byte_of}
 use Rattle.eeprom.specs.declared.EepromFrame.{EepromFrame}
 use Rattle.eeprom.specs.declared.EepromFrame.TheVariants.{Idle, Void, Opened, Addressed, Half, Taking, Reading}
-use Rattle.eeprom.specs.declared.EepromCycle.TheVariants.{None, Write}
-use Rattle.eeprom.specs.declared.EepromCounter.TheVariants.{Lost}
 use Rattle.eeprom.specs.declared.Eeprom.{Eeprom}
 use Rattle.eeprom.specs.declared.EepromStep.{EepromStep}
 
@@ -34,7 +32,7 @@ abbrev pub write_ends : Eeprom → ℕ → Bool → EepromStep
 write_ends x n lock =
     pick (eqb n 0) (idle_of x)
     (pick lock (idle_of x)
-    (answered (record { frame = Idle; cycle = Write (sent_by (place_of x.counter) n); counter = x.counter; page = x.page }) Starts))
+    (answered (record { frame = Idle; cycle = Some (sent_by (place_of x.counter) n); counter = x.counter; page = x.page }) Starts))
 
 abbrev pub stop_in : EepromFrame → Eeprom → Bool → EepromStep
 stop_in Idle x lock = idle_of x
@@ -85,7 +83,7 @@ voided_by Reading = Void
 
 -- the supply goes off: then no cycle runs, the counter is lost, and an open frame void
 abbrev pub off_of : Eeprom → Eeprom
-off_of x = record { frame = voided_by x.frame; cycle = None; counter = Lost; page = blank }
+off_of x = record { frame = voided_by x.frame; cycle = None; counter = None; page = blank }
 
 -- of the line records only that one does something; a repeated line state does nothing
 abbrev pub line_of : Eeprom → LineEvent → Lines → Eeprom

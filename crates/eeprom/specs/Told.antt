@@ -1,6 +1,6 @@
 -- What the bus records and their skeleton replies alone tell of the chip, whatever the lines did between them, and the chip as a control.
 -- By it two orders of one stamp's records are compared without an image.
-use Rattle.std.specs.Prelude.{ℕ, ◌%◌, false, ◌≡◌, List}
+use Rattle.std.specs.Prelude.{ℕ, ◌%◌, false, ◌≡◌, List, Option, Some, None}
 use Rattle.tied.specs.Control.{Control, Cycle, idle, runs}
 use Rattle.record.specs.Told.{skeleton_kind, Telling}
 use Rattle.record.specs.declared.Skeleton.{Skeleton}
@@ -16,10 +16,6 @@ use Rattle.eeprom.specs.Good.{count_of, Good}
 use Rattle.eeprom.specs.declared.Sent.{Sent}
 use Rattle.eeprom.specs.declared.EepromFrame.{EepromFrame}
 use Rattle.eeprom.specs.declared.EepromFrame.TheVariants.{Idle, Void, Opened, Addressed, Half, Taking, Reading}
-use Rattle.eeprom.specs.declared.EepromCycle.{EepromCycle}
-use Rattle.eeprom.specs.declared.EepromCycle.TheVariants.{None, Write}
-use Rattle.eeprom.specs.declared.EepromCounter.{EepromCounter}
-use Rattle.eeprom.specs.declared.EepromCounter.TheVariants.{Lost, At}
 use Rattle.eeprom.specs.declared.Eeprom.{Eeprom}
 
 -- ---- a cycle with all that its effect depends on
@@ -27,9 +23,9 @@ pub record Writing : Type 0 where
   pub sent : Sent
   pub bytes : List ℕ
 
-abbrev pub runs_in : EepromCycle → List ℕ → Cycle Writing
+abbrev pub runs_in : Option Sent → List ℕ → Cycle Writing
 runs_in None page = idle
-runs_in (Write s) page = runs (record { sent = s; bytes = page })
+runs_in (Some s) page = runs (record { sent = s; bytes = page })
 
 abbrev pub runs_of : Eeprom → Cycle Writing
 runs_of x = runs_in x.cycle x.page
@@ -37,7 +33,7 @@ runs_of x = runs_in x.cycle x.page
 -- ---- what is told: the frame, the counter, and the data so far
 pub record Told : Type 0 where
   pub frame : EepromFrame
-  pub counter : EepromCounter
+  pub counter : Option ℕ
   pub page : List ℕ
 
 -- an acknowledged byte is the next one of the frame
@@ -46,11 +42,11 @@ told_ack Idle t b = t
 told_ack Void t b = t
 told_ack (Opened barred) t b = record { frame = opened_by b; counter = t.counter; page = blank }
 told_ack Addressed t b = record { frame = Half (b % 128); counter = t.counter; page = blank }
-told_ack (Half high) t b = record { frame = Taking 0; counter = At (address_of high b); page = blank }
+told_ack (Half high) t b = record { frame = Taking 0; counter = Some (address_of high b); page = blank }
 told_ack (Taking n) t b =
     record {
       frame = Taking (counted n);
-      counter = At (next_in_page (place_of t.counter));
+      counter = Some (next_in_page (place_of t.counter));
       page = put_byte (place_of t.counter) b t.page;
     }
 told_ack Reading t b = t
@@ -79,7 +75,7 @@ abbrev pub cycle_told : Told → EepromEvent → Writing
 cycle_told t e = record { sent = sent_by (place_of t.counter) (count_of t.frame); bytes = t.page }
 
 -- the place from which a byte is about to be read
-abbrev pub hint_in : EepromFrame → EepromCounter → Skeleton
+abbrev pub hint_in : EepromFrame → Option ℕ → Skeleton
 hint_in Idle n = Silent
 hint_in Void n = Silent
 hint_in (Opened barred) n = Silent
@@ -106,9 +102,9 @@ FrameTold (Taking n) page t = (t.frame ≡ Taking n) × (t.page ≡ page)
 FrameTold Reading page t = t.frame ≡ Reading
 
 -- its counter is lost or the told one
-abbrev pub CounterTold : EepromCounter → EepromCounter → Type 0
-CounterTold Lost m = Unit {0}
-CounterTold (At p) m = m ≡ At p
+abbrev pub CounterTold : Option ℕ → Option ℕ → Type 0
+CounterTold None m = Unit {0}
+CounterTold (Some p) m = m ≡ Some p
 
 pub record Tracks (x : Eeprom) (t : Told) : Type 0 where
   pub frame_told : FrameTold x.frame x.page t

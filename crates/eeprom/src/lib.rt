@@ -3,7 +3,6 @@
 #![tactic(auto)]
 
 ghost use Rattle.std.specs.Prelude.{◌≡◌};
-ghost use Rattle.law.specs.Deciding.{Decides};
 ghost use Rattle.eeprom.specs.Chip.{start_of, answered, in_frame, silent_in};
 ghost use Rattle.eeprom.specs.Frame.{address_byte, low_byte, data_byte, read_byte, byte_of};
 ghost use Rattle.eeprom.specs.Step.{started_of, write_ends, stop_of, end_of, powered_of, unpowered_of, step_of, off_of, line_of};
@@ -12,10 +11,9 @@ use record::{EepromEvent, LineEvent, Lines, Skeleton};
 
 mod write; // the places that a write is for
 mod parts; // frames, cycles and counters by themselves
-mod numbers; // the numbers that they are compared by
 
 // A frame, from `sta` to the next `sta` or `sto`.
-#[derive(Clone, Copy)]
+#[derive(Clone, Copy, Debug, PartialEq, Eq)]
 pub enum EepromFrame {
     Idle,
     Void,
@@ -32,33 +30,25 @@ pub enum EepromFrame {
 }
 
 // The places of a write: their page, the first one in it, and how many; all 64 are counted from 0.
-#[derive(Clone, Copy)]
+#[derive(Clone, Copy, Debug, PartialEq, Eq)]
 pub struct Sent {
     pub page: u32,
     pub first: u32,
     pub count: u32,
 }
 
-#[derive(Clone, Copy)]
-pub enum EepromCycle {
-    None,
-    Write(Sent),
-}
-
-#[derive(Clone, Copy)]
-pub enum EepromCounter {
-    Lost,
-    At(u32),
-}
-
 pub type EepromPage = [u8; page::EEPROM_PAGE as usize];
 
+// A page to which nothing was sent.
+const BLANK: EepromPage = [0; page::EEPROM_PAGE as usize];
+
+// The write whose cycle runs, if one does, and the place of the counter, unless that is lost.
 // The page holds the bytes of a write that is being sent or whose cycle runs, and 0 elsewhere. So two chips in one state are one value.
-#[derive(Clone, Copy)]
+#[derive(Clone, Copy, Debug, PartialEq, Eq)]
 pub struct Eeprom {
     pub frame: EepromFrame,
-    pub cycle: EepromCycle,
-    pub counter: EepromCounter,
+    pub cycle: Option<Sent>,
+    pub counter: Option<u32>,
     pub page: EepromPage,
 }
 
@@ -75,9 +65,9 @@ impl Eeprom {
     {
         Eeprom {
             frame: EepromFrame::Idle,
-            cycle: EepromCycle::None,
-            counter: EepromCounter::Lost,
-            page: [0; page::EEPROM_PAGE as usize],
+            cycle: None,
+            counter: None,
+            page: BLANK,
         }
     }
 
@@ -85,25 +75,18 @@ impl Eeprom {
     fn answer(self, reply: Skeleton) -> EepromStep
         ensures { result ≡ answered self reply }
     {
-        EepromStep {
-            chip: self,
-            reply: reply,
-        }
+        EepromStep { chip: self, reply }
     }
 
     // The same chip in a frame that has no data.
     fn in_frame(self, frame: EepromFrame) -> Eeprom
         ensures { result ≡ in_frame self frame }
     {
-        let cycle = self.cycle;
-        let counter = self.counter;
-        let bytes = self.page;
-        let page = parts::page_in(cycle, bytes);
+        let page = parts::page_in(self.cycle, self.page);
         Eeprom {
-            frame: frame,
-            cycle: cycle,
-            counter: counter,
-            page: page,
+            frame,
+            page,
+            ..self
         }
     }
 
@@ -118,14 +101,12 @@ impl Eeprom {
     fn address_byte(self, barred: bool, b: u8, wired: u8) -> EepromStep
         ensures { result ≡ address_byte self barred b wired }
     {
-        if parts::own_address(b, wired) {
-            if barred {
-                self.in_frame(EepromFrame::Void).answer(Skeleton::NoAck)
-            } else {
-                self.in_frame(parts::opened_by(b)).answer(Skeleton::Ack)
-            }
-        } else {
+        if !parts::own_address(b, wired) {
             self.silent_in(EepromFrame::Void)
+        } else if barred {
+            self.in_frame(EepromFrame::Void).answer(Skeleton::NoAck)
+        } else {
+            self.in_frame(parts::opened_by(b)).answer(Skeleton::Ack)
         }
     }
 
@@ -133,14 +114,11 @@ impl Eeprom {
     fn low_byte(self, high: u8, b: u8) -> EepromStep
         ensures { result ≡ low_byte self high b }
     {
-        let cycle = self.cycle;
-        let page = self.page;
         let address = (high as u32 * 256 + b as u32) % page::EEPROM_SIZE;
         let chip = Eeprom {
             frame: EepromFrame::Taking(0),
-            cycle: cycle,
-            counter: EepromCounter::At(address),
-            page: page,
+            counter: Some(address),
+            ..self
         };
         chip.answer(Skeleton::Ack)
     }
@@ -149,18 +127,12 @@ impl Eeprom {
     fn data_byte(self, count: u32, b: u8) -> EepromStep
         ensures { result ≡ data_byte self count b }
     {
-        let cycle = self.cycle;
-        let counter = self.counter;
-        let bytes = self.page;
-        let place = parts::place_of(counter);
-        let page = write::put_byte(place, b, bytes);
-        let next = write::next_in_page(place);
-        let more = write::one_more(count);
+        let place = parts::place_of(self.counter);
         let chip = Eeprom {
-            frame: EepromFrame::Taking(more),
-            cycle: cycle,
-            counter: EepromCounter::At(next),
-            page: page,
+            frame: EepromFrame::Taking(write::one_more(count)),
+            counter: Some(write::next_in_page(place)),
+            page: write::put_byte(place, b, self.page),
+            ..self
         };
         chip.answer(Skeleton::Ack)
     }
@@ -169,26 +141,20 @@ impl Eeprom {
     fn read_byte(self, bit: bool) -> EepromStep
         ensures { result ≡ read_byte self bit }
     {
-        let cycle = self.cycle;
-        let counter = self.counter;
-        let page = self.page;
         let chip = Eeprom {
             frame: parts::after_read(bit),
-            cycle: cycle,
-            counter: parts::moved_on(counter),
-            page: page,
+            counter: parts::moved_on(self.counter),
+            ..self
         };
-        chip.answer(parts::fetch(counter))
+        chip.answer(parts::fetch(self.counter))
     }
 
     // A byte with the supply on.
     fn byte(self, b: u8, bit: bool, wired: u8) -> EepromStep
         ensures { result ≡ byte_of self b bit wired }
     {
-        let frame = self.frame;
-        match frame {
-            EepromFrame::Idle => self.answer(Skeleton::Silent),
-            EepromFrame::Void => self.answer(Skeleton::Silent),
+        match self.frame {
+            EepromFrame::Idle | EepromFrame::Void => self.answer(Skeleton::Silent),
             EepromFrame::Opened(barred) => self.address_byte(barred, b, wired),
             EepromFrame::Addressed => self
                 .in_frame(EepromFrame::Half(b % 128))
@@ -203,8 +169,7 @@ impl Eeprom {
     fn started(self) -> EepromStep
         ensures { result ≡ started_of self }
     {
-        let cycle = self.cycle;
-        let busy = parts::running(cycle);
+        let busy = parts::running(self.cycle);
         self.silent_in(EepromFrame::Opened(busy))
     }
 
@@ -212,20 +177,14 @@ impl Eeprom {
     fn write_ends(self, count: u32, lock: bool) -> EepromStep
         ensures { result ≡ write_ends self count lock }
     {
-        if count == 0 {
+        if count == 0 || lock {
             return self.silent_in(EepromFrame::Idle);
         }
-        if lock {
-            return self.silent_in(EepromFrame::Idle);
-        }
-        let counter = self.counter;
-        let page = self.page;
-        let sent = write::sent_by(parts::place_of(counter), count);
+        let sent = write::sent_by(parts::place_of(self.counter), count);
         let chip = Eeprom {
             frame: EepromFrame::Idle,
-            cycle: EepromCycle::Write(sent),
-            counter: counter,
-            page: page,
+            cycle: Some(sent),
+            ..self
         };
         chip.answer(Skeleton::Starts)
     }
@@ -234,15 +193,9 @@ impl Eeprom {
     fn stop(self, lock: bool) -> EepromStep
         ensures { result ≡ stop_of self lock }
     {
-        let frame = self.frame;
-        match frame {
-            EepromFrame::Idle => self.silent_in(EepromFrame::Idle),
-            EepromFrame::Void => self.silent_in(EepromFrame::Idle),
-            EepromFrame::Opened(_) => self.silent_in(EepromFrame::Idle),
-            EepromFrame::Addressed => self.silent_in(EepromFrame::Idle),
-            EepromFrame::Half(_) => self.silent_in(EepromFrame::Idle),
+        match self.frame {
             EepromFrame::Taking(count) => self.write_ends(count, lock),
-            EepromFrame::Reading => self.silent_in(EepromFrame::Idle),
+            _ => self.silent_in(EepromFrame::Idle),
         }
     }
 
@@ -250,20 +203,15 @@ impl Eeprom {
     fn end(self) -> EepromStep
         ensures { result ≡ end_of self }
     {
-        let frame = self.frame;
-        let cycle = self.cycle;
-        let counter = self.counter;
-        if parts::running(cycle) {
-            let chip = Eeprom {
-                frame: frame,
-                cycle: EepromCycle::None,
-                counter: counter,
-                page: [0; page::EEPROM_PAGE as usize],
-            };
-            chip.answer(Skeleton::Ends)
-        } else {
-            self.answer(Skeleton::NoCycle)
+        if !parts::running(self.cycle) {
+            return self.answer(Skeleton::NoCycle);
         }
+        let chip = Eeprom {
+            cycle: None,
+            page: BLANK,
+            ..self
+        };
+        chip.answer(Skeleton::Ends)
     }
 
     // A record of channel E with the supply on.
@@ -284,9 +232,8 @@ impl Eeprom {
         ensures { result ≡ unpowered_of self e }
     {
         match e {
-            EepromEvent::Start => self.silent_in(EepromFrame::Void),
+            EepromEvent::Start | EepromEvent::Cut => self.silent_in(EepromFrame::Void),
             EepromEvent::Byte(_, _) => self.answer(Skeleton::Silent),
-            EepromEvent::Cut => self.silent_in(EepromFrame::Void),
             EepromEvent::Stop => self.silent_in(EepromFrame::Idle),
             EepromEvent::End => self.answer(Skeleton::NoCycle),
         }
@@ -307,12 +254,9 @@ impl Eeprom {
     fn supply_off(self) -> Eeprom
         ensures { result ≡ off_of self }
     {
-        let frame = self.frame;
         Eeprom {
-            frame: parts::voided(frame),
-            cycle: EepromCycle::None,
-            counter: EepromCounter::Lost,
-            page: [0; page::EEPROM_PAGE as usize],
+            frame: parts::voided(self.frame),
+            ..Eeprom::start()
         }
     }
 
@@ -326,28 +270,4 @@ impl Eeprom {
             self
         }
     }
-}
-
-// Whether two chips are in one state.
-pub fn same(a: Eeprom, b: Eeprom) -> bool
-    ensures { Decides result (a ≡ b) }
-{
-    let fa = a.frame;
-    let fb = b.frame;
-    if !law::same_numbers(numbers::frame_numbers(fa), numbers::frame_numbers(fb)) {
-        return false;
-    }
-    let ca = a.cycle;
-    let cb = b.cycle;
-    if !law::same_numbers(numbers::cycle_numbers(ca), numbers::cycle_numbers(cb)) {
-        return false;
-    }
-    let na = a.counter;
-    let nb = b.counter;
-    if !law::same_numbers(numbers::counter_numbers(na), numbers::counter_numbers(nb)) {
-        return false;
-    }
-    let pa = a.page;
-    let pb = b.page;
-    page::same(&pa, &pb)
 }

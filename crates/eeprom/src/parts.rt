@@ -4,36 +4,27 @@ ghost use Rattle.eeprom.specs.Chip.{running_of, page_in, place_of};
 ghost use Rattle.eeprom.specs.Frame.{own_address, opened_by, fetch_of, moved_on, after_read};
 ghost use Rattle.eeprom.specs.Step.{voided_by};
 
-use crate::{EepromCounter, EepromCycle, EepromFrame, EepromPage};
+use crate::{BLANK, EepromFrame, EepromPage, Sent};
 use record::Skeleton;
 
-pub(crate) fn running(cycle: EepromCycle) -> bool
+pub(crate) fn running(cycle: Option<Sent>) -> bool
     ensures { result ≡ running_of cycle }
 {
-    match cycle {
-        EepromCycle::None => false,
-        EepromCycle::Write(_) => true,
-    }
+    cycle.is_some()
 }
 
 // What is left of the page where the frame has no data.
-pub(crate) fn page_in(cycle: EepromCycle, bytes: EepromPage) -> EepromPage
+pub(crate) fn page_in(cycle: Option<Sent>, bytes: EepromPage) -> EepromPage
     ensures { result ≡ page_in cycle bytes }
 {
-    match cycle {
-        EepromCycle::None => [0; page::EEPROM_PAGE as usize],
-        EepromCycle::Write(_) => bytes,
-    }
+    if running(cycle) { bytes } else { BLANK }
 }
 
 // The counter's place; a frame that takes data has one.
-pub(crate) fn place_of(counter: EepromCounter) -> u32
+pub(crate) fn place_of(counter: Option<u32>) -> u32
     ensures { result ≡ place_of counter }
 {
-    match counter {
-        EepromCounter::Lost => 0,
-        EepromCounter::At(p) => p,
-    }
+    counter.unwrap_or(0)
 }
 
 // 1010 A2 A1 A0 R/W.
@@ -55,32 +46,27 @@ pub(crate) fn opened_by(b: u8) -> EepromFrame
 }
 
 // What a read delivers: the byte at the counter, or nothing where it is lost.
-pub(crate) fn fetch(counter: EepromCounter) -> Skeleton
+pub(crate) fn fetch(counter: Option<u32>) -> Skeleton
     ensures { result ≡ fetch_of counter }
 {
-    match counter {
-        EepromCounter::Lost => Skeleton::Silent,
-        EepromCounter::At(p) => Skeleton::Fetch(p),
-    }
+    counter.map_or(Skeleton::Silent, Skeleton::Fetch)
 }
 
 // The counter after a byte was read: 7fff goes on to 0000.
-pub(crate) fn moved_on(counter: EepromCounter) -> EepromCounter
+pub(crate) fn moved_on(counter: Option<u32>) -> Option<u32>
     ensures { result ≡ moved_on counter }
 {
-    match counter {
-        EepromCounter::Lost => EepromCounter::Lost,
-        EepromCounter::At(p) => EepromCounter::At(page::rolled(p, page::EEPROM_SIZE - 1)),
-    }
+    counter.map(|p| page::rolled(p, page::EEPROM_SIZE - 1))
 }
 
 // A read frame after a byte: a 1 acknowledge bit voids it.
 pub(crate) fn after_read(bit: bool) -> EepromFrame
     ensures { result ≡ after_read bit }
 {
-    match bit {
-        true => EepromFrame::Void,
-        false => EepromFrame::Reading,
+    if bit {
+        EepromFrame::Void
+    } else {
+        EepromFrame::Reading
     }
 }
 
@@ -90,11 +76,6 @@ pub(crate) fn voided(frame: EepromFrame) -> EepromFrame
 {
     match frame {
         EepromFrame::Idle => EepromFrame::Idle,
-        EepromFrame::Void => EepromFrame::Void,
-        EepromFrame::Opened(_) => EepromFrame::Void,
-        EepromFrame::Addressed => EepromFrame::Void,
-        EepromFrame::Half(_) => EepromFrame::Void,
-        EepromFrame::Taking(_) => EepromFrame::Void,
-        EepromFrame::Reading => EepromFrame::Void,
+        _ => EepromFrame::Void,
     }
 }

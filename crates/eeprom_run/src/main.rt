@@ -2,7 +2,7 @@
 // fetched byte's place. The expected text is written from document 01, 'EEPROM rules' and 'Supply'.
 #![tactic(auto)]
 
-use eeprom::{Eeprom, EepromCycle};
+use eeprom::{Eeprom, Sent};
 use record::{EepromEvent, LineEvent, Lines, Skeleton};
 use std::io;
 
@@ -40,24 +40,18 @@ fn show<R: Print>(rt: &R, reply: Skeleton) -> io::Result<()> {
 
 impl Bench {
     fn bus<R: Print>(self, rt: &R, e: EepromEvent) -> io::Result<Bench> {
-        let chip = self.chip;
-        let lines = self.lines;
-        let s = chip.step(e, lines, 5);
-        let next = s.chip;
-        let reply = s.reply;
-        show(rt, reply)?;
+        let step = self.chip.step(e, self.lines, 5);
+        show(rt, step.reply)?;
         Ok(Bench {
-            chip: next,
-            lines: lines,
+            chip: step.chip,
+            ..self
         })
     }
 
     fn line(self, e: LineEvent) -> Bench {
-        let chip = self.chip;
-        let lines = self.lines;
         Bench {
-            chip: chip.line(e, lines),
-            lines: record::lines_after(lines, e),
+            chip: self.chip.line(e, self.lines),
+            lines: record::lines_after(self.lines, e),
         }
     }
 
@@ -93,18 +87,17 @@ fn show_byte<R: Print>(rt: &R, b: u8) -> io::Result<()> {
 
 // The places of the cycle, and some bytes of its page.
 fn show_cycle<R: Print>(rt: &R, t: &Bench) -> io::Result<()> {
-    let page = &t.chip.page;
-    match &t.chip.cycle {
-        EepromCycle::None => print!(rt; " none")?,
-        EepromCycle::Write(sent) => {
-            let (number, first, count) = (sent.page, sent.first, sent.count);
-            print!(rt; " page {number} first {first} count {count}")?
-        }
+    match t.chip.cycle {
+        None => print!(rt; " none")?,
+        Some(Sent { page, first, count }) => print!(rt;
+            " page {page} first {first} count {count}"
+        )?,
     }
     print!(rt; " at 3, 4, 62:")?;
-    show_byte(rt, page[3])?;
-    show_byte(rt, page[4])?;
-    show_byte(rt, page[62])
+    for place in [3, 4, 62] {
+        show_byte(rt, t.chip.page[place])?;
+    }
+    Ok(())
 }
 
 // One data byte at 0010, as far as its cycle.
