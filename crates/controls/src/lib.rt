@@ -38,20 +38,13 @@ impl Controls {
     fn flash_moved(self, e: FlashEvent, watched: u8) -> Moved
         ensures { result ≡ flash_moved self e watched }
     {
-        let flash = self.flash;
-        let eeprom = self.eeprom;
-        let lines = self.lines;
-        let step = flash.step(e, lines, watched);
-        let chip = step.chip;
-        let reply = step.reply;
-        let controls = Controls {
-            flash: chip,
-            eeprom: eeprom,
-            lines: lines,
-        };
+        let step = self.flash.step(e, self.lines, watched);
         Moved {
-            controls: controls,
-            reply: reply,
+            controls: Controls {
+                flash: step.chip,
+                ..self
+            },
+            reply: step.reply,
         }
     }
 
@@ -59,20 +52,13 @@ impl Controls {
     fn eeprom_moved(self, e: EepromEvent, wired: u8) -> Moved
         ensures { result ≡ eeprom_moved self e wired }
     {
-        let flash = self.flash;
-        let eeprom = self.eeprom;
-        let lines = self.lines;
-        let step = eeprom.step(e, lines, wired);
-        let chip = step.chip;
-        let reply = step.reply;
-        let controls = Controls {
-            flash: flash,
-            eeprom: chip,
-            lines: lines,
-        };
+        let step = self.eeprom.step(e, self.lines, wired);
         Moved {
-            controls: controls,
-            reply: reply,
+            controls: Controls {
+                eeprom: step.chip,
+                ..self
+            },
+            reply: step.reply,
         }
     }
 
@@ -80,16 +66,13 @@ impl Controls {
     fn line_moved(self, e: LineEvent) -> Moved
         ensures { result ≡ line_moved self e }
     {
-        let flash = self.flash;
-        let eeprom = self.eeprom;
-        let lines = self.lines;
         let controls = Controls {
-            flash: flash.line(e, lines),
-            eeprom: eeprom.line(e, lines),
-            lines: record::lines_after(lines, e),
+            flash: self.flash.line(e, self.lines),
+            eeprom: self.eeprom.line(e, self.lines),
+            lines: record::lines_after(self.lines, e),
         };
         Moved {
-            controls: controls,
+            controls,
             reply: Skeleton::Silent,
         }
     }
@@ -99,8 +82,7 @@ impl Controls {
     pub fn play(self, board: Board, rec: Record) -> Moved
         ensures { result ≡ moved_of board self rec }
     {
-        let event = rec.event;
-        match event {
+        match rec.event {
             Event::Flash(e) => self.flash_moved(e, board.sector),
             Event::Eeprom(e) => self.eeprom_moved(e, board.address),
             Event::Line(e) => self.line_moved(e),
@@ -111,35 +93,31 @@ impl Controls {
     pub fn lost(self) -> bool
         ensures { result ≡ lost_of self }
     {
-        let flash = self.flash;
-        flash.lost()
+        self.flash.lost()
     }
+}
+
+fn same_eeprom(a: Eeprom, b: Eeprom) -> bool
+    ensures { Decides result (a ≡ b) }
+{
+    a == b
 }
 
 fn same_lines(a: Lines, b: Lines) -> bool
     ensures { Decides result (a ≡ b) }
 {
-    if a.supply != b.supply {
-        return false;
-    }
-    a.lock == b.lock
+    a == b
 }
 
 // Whether the controls are in one state.
 pub fn same(a: Controls, b: Controls) -> bool
     ensures { Decides result (a ≡ b) }
 {
-    let fa = a.flash;
-    let fb = b.flash;
-    if !flash::same(fa, fb) {
+    if !flash::same(a.flash, b.flash) {
         return false;
     }
-    let ea = a.eeprom;
-    let eb = b.eeprom;
-    if !eeprom::same(ea, eb) {
+    if !same_eeprom(a.eeprom, b.eeprom) {
         return false;
     }
-    let la = a.lines;
-    let lb = b.lines;
-    same_lines(la, lb)
+    same_lines(a.lines, b.lines)
 }
