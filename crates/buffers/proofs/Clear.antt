@@ -1,38 +1,51 @@
--- No bit is set in both: the loop that looks from the front, and what it says of every place. Assumes nothing.
+-- No bit is set in both: all places joined, and what the test says of every place. Assumes nothing.
 use mathlib.Core.Path.{◌≡◌, refl, sym, ap, ◌∙◌}
 use mathlib.Core.Bool.{Bool, true, false}
 use mathlib.Core.List.{List, [], ◌∷◌}
-use Prim.Native.Nat.{ℕ, zero, suc, ◌+◌, ◌≤◌, ◌<◌}
-use native.Mathlib.Numerals.{add-one}
+use Prim.Native.Nat.{ℕ, zero, suc}
 use native.Mathlib.Omega.{arith}
-use borrow.Author.Tests.{eq-eqb, eqb-true}
-use lib.Bits.{bit_and, and_zero_l, and_zero_r}
+use borrow.Author.Tests.{eq-eqb, eqb-true, ne_eqb}
+use lib.Bits.{bit_and, bit_or, and_zero_l, and_zero_r}
 use lib.Dec.{eqb}
-use lib.ListN.{length, get_or, drop, drop_of_length-le}
-use lib.Seq.{drop-cons}
+use lib.ListN.{get_or}
+use Rattle.std.specs.List.{fold, zip}
+use Rattle.std.proofs.lemmas.Nat.{le_or_l}
 use Rattle.law.specs.Choice.{both}
 use Rattle.law.specs.Words.{pick}
 use Rattle.cell.specs.Rules.{Disjoint}
 use Rattle.image.specs.Image.{Image, Clean}
 use Rattle.buffers.specs.Buffers.{clear}
 
-module _ (vs ms : List ℕ) (i : ℕ) (same : length ms ≡ length vs) where
-  -- the next place, then the rest
-  cut : i < length vs → clear (drop i vs) (drop i ms) ≡ pick (eqb (bit_and (get_or vs i 0) (get_or ms i 0)) 0) (clear (drop (i + 1) vs) (drop (i + 1) ms)) false
-  unfolding clear
-  cut h = rw (add-one, drop-cons vs i 0 (omega arith), drop-cons ms i 0 (omega arith))
+-- a number joined with another is 0 where both are
+or_zero : (a x : ℕ) → eqb (bit_or a x) 0 ≡ pick (eqb a 0) (eqb x 0) false
+or_zero zero x = refl
+or_zero (suc a) x =
+    ne_eqb (bit_or (suc a) x) 0 (omega (arith, le_or_l (suc a) x))
+    ∙ ap (λ (t : Bool). pick t (eqb x 0) false) (sym (ne_eqb (suc a) 0 (omega arith)))
 
-  -- the flag so far, with the places from i on, says whether all are clear; so does the flag with the next place, and the rest
-  pub clear_on : (ok r : Bool) → i < length vs → r ≡ pick ok (eqb (bit_and (get_or vs i 0) (get_or ms i 0)) 0) false →
-      pick r (clear (drop (i + 1) vs) (drop (i + 1) ms)) false ≡ pick ok (clear (drop i vs) (drop i ms)) false
-  clear_on true r h e = ap (λ (t : Bool). pick t (clear (drop (i + 1) vs) (drop (i + 1) ms)) false) e ∙ sym (cut h)
-  clear_on false r h e = ap (λ (t : Bool). pick t (clear (drop (i + 1) vs) (drop (i + 1) ms)) false) e
+either : (s t r : Bool) → pick (pick s t false) r false ≡ pick s (pick t r false) false
+either true t r = refl
+either false t r = refl
 
-  -- no place is left
-  pub clear_end : (ok : Bool) → length vs ≤ i → pick ok (clear (drop i vs) (drop i ms)) false ≡ ok
-  unfolding clear
-  clear_end true h = ap (λ (l : List ℕ). clear l (drop i ms)) (drop_of_length-le vs {i = i} h)
-  clear_end false h = refl
+alone : (t : Bool) → t ≡ pick t true false
+alone true = refl
+alone false = refl
+
+-- what is set in both at any place, joined to what was seen before
+abbrev pub set_in_both : ℕ → List (ℕ × ℕ) → ℕ
+set_in_both a pairs = fold (λ seen p. bit_or seen (bit_and p.0 p.1)) a pairs
+
+joined : (a : ℕ) (vs ms : List ℕ) → eqb (set_in_both a (zip vs ms)) 0 ≡ pick (eqb a 0) (clear vs ms) false
+unfolding clear
+joined a [] ms = alone (eqb a 0)
+joined a (v ∷ vs) [] = alone (eqb a 0)
+joined a (v ∷ vs) (m ∷ ms) =
+    joined (bit_or a (bit_and v m)) vs ms
+    ∙ ap (λ (t : Bool). pick t (clear vs ms) false) (or_zero a (bit_and v m))
+    ∙ either (eqb a 0) (eqb (bit_and v m) 0) (clear vs ms)
+
+pub set_nowhere : (vs ms : List ℕ) → eqb (set_in_both 0 (zip vs ms)) 0 ≡ clear vs ms
+set_nowhere = joined 0
 
 -- at every place, also past the ends
 pub clear_at : (vs ms : List ℕ) → clear vs ms ≡ true → (k : ℕ) → bit_and (get_or vs k 0) (get_or ms k 0) ≡ 0

@@ -1,29 +1,17 @@
 -- How the replies stand: one after the other, with zeros behind the last. Assumes nothing.
-use mathlib.Core.Path.{◌≡◌, sym, ap, ap₂, ◌∙◌}
-use mathlib.Core.List.{List, [], ◌∷◌, ◌++◌}
+use mathlib.Core.Path.{◌≡◌, ap, ap₂, ◌∙◌}
+use mathlib.Core.List.{List, ◌++◌}
 use Prim.Native.Nat.{ℕ, suc, ◌+◌, ◌*◌, ◌<◌}
 use native.Mathlib.Omega.{arith}
 use borrow.Author.Tests.{eq-eqb, lt-ltb}
 use lib.ListN.{length, take, drop, replicate}
 use lib.Seq.{sets, sets-eq, take_at, drop-append-add}
-use Rattle.record.specs.declared.Reply.{Reply}
-use Rattle.record.specs.declared.Match.{Match}
-use Rattle.record.specs.Replies.{reply_kind, reply_value, reply_mask, match_number, reply_bytes}
 use Rattle.record.specs.Lengths.{replies_length, reply_places}
 use Rattle.buffers.specs.Put.{replies_with}
 
 pub reply_put : (number : ℕ) (four old : List ℕ) → number < reply_places → length old ≡ replies_length → replies_with number four old ≡ sets old (4 * number) four
 unfolding replies_with
 reply_put number four old h e = simp (lt-ltb _ _ h, eq-eqb _ _ e)
-
--- a reply by its four bytes, as they are stored
-pub reply_stored : (number k v m n : ℕ) (reply : Reply) (how : Match) (old new : List ℕ) → number < reply_places → length old ≡ replies_length
-    → k ≡ reply_kind reply → v ≡ reply_value reply → m ≡ reply_mask reply → n ≡ match_number how
-    → new ≡ sets old (4 * number) (k ∷ v ∷ m ∷ n ∷ []) → new ≡ replies_with number (reply_bytes reply how) old
-reply_stored number k v m n reply how old new h e p q r s put =
-    put
-    ∙ (λ i. sets old (4 * number) (p i ∷ q i ∷ r i ∷ s i ∷ []))
-    ∙ sym (reply_put number (reply_bytes reply how) old h e)
 
 -- zeros behind four places
 drop_four : (w : List ℕ) (k : ℕ) → drop (length w + 4) (w ++ replicate (4 + k) 0) ≡ replicate k 0

@@ -2,7 +2,7 @@
 // A buffer of another length than the documents give it is left alone.
 #![tactic(auto)]
 
-ghost use Rattle.std.specs.Prelude.{◌≡◌, [], ◌∷◌, ◌+◌, ◌≤◌, length, replicate};
+ghost use Rattle.std.specs.Prelude.{◌≡◌, ◌+◌, ◌≤◌, length, replicate};
 ghost use Rattle.std.proofs.lemmas.List.Edits.{sets};
 ghost use Rattle.record.specs.Replies.{reply_bytes};
 ghost use Rattle.record.specs.Word.{word};
@@ -26,13 +26,9 @@ pub fn fits_all(
 ) -> bool
     ensures { result ≡ fit (buffers_of flash.now flash_mask.now eeprom.now eeprom_mask.now times.now replies.now res.now) }
 {
-    if times.len() != times::TIMES {
-        return false;
-    }
-    if replies.len() != record::REPLIES {
-        return false;
-    }
-    fits_images(flash, flash_mask, eeprom, eeprom_mask, res)
+    times.len() == times::TIMES
+        && replies.len() == record::REPLIES
+        && fits_images(flash, flash_mask, eeprom, eeprom_mask, res)
 }
 
 // The same where only images and a result are lent.
@@ -46,19 +42,11 @@ pub fn fits_images(
 ) -> bool
     ensures { result ≡ fit_images (images_of flash.now flash_mask.now eeprom.now eeprom_mask.now) res.now }
 {
-    if !image_fits(Chip::Flash, flash, flash_mask) {
-        return false;
-    }
-    if !image_fits(Chip::Eeprom, eeprom, eeprom_mask) {
-        return false;
-    }
-    if res.len() != record::RESULT {
-        return false;
-    }
-    if !is_clear(flash, flash_mask) {
-        return false;
-    }
-    is_clear(eeprom, eeprom_mask)
+    image_fits(Chip::Flash, flash, flash_mask)
+        && image_fits(Chip::Eeprom, eeprom, eeprom_mask)
+        && res.len() == record::RESULT
+        && is_clear(flash, flash_mask)
+        && is_clear(eeprom, eeprom_mask)
 }
 
 // As many values and masks as bytes are kept of the chip.
@@ -67,37 +55,31 @@ fn image_fits(chip: Chip, values: &[u8], masks: &[u8]) -> bool
     ensures { result ≡ spans (kept_bytes chip) (image_of values.now masks.now) }
 {
     let kept = image::kept_bytes(chip);
-    if values.len() != kept {
-        return false;
-    }
-    masks.len() == kept
+    values.len() == kept && masks.len() == kept
 }
 
-// No bit is set in both. Every place is looked at (`law::both`).
+// No bit is set in both. Every place is looked at: with no way out of the loop a machine tests many places at once.
 fn is_clear(values: &[u8], masks: &[u8]) -> bool
-    requires { length masks.now ≡ length values.now }
     ensures { result ≡ clear values.now masks.now }
 {
-    let mut ok = true;
-    let mut i = 0;
-    while i < values.len() {
-        ok = law::both(ok, values[i] & masks[i] == 0);
-        i += 1;
-    }
-    ok
+    values
+        .iter()
+        .zip(masks)
+        .fold(0, |seen, (v, m)| seen | v & m)
+        == 0
 }
 
 // The result: the answer's number, a line or a stamp, a count, the number of a line's first bad field.
+// Kept: the answer is a number, and no enum: three enums of answers share the result's first word, and desk_c hands it to C as it is.
 pub fn put_result(res: &mut [u8], answer: u32, number: usize, count: u32, field: u32)
     ensures { res.new ≡ result_after answer number count field res.old }
 {
-    if res.len() != record::RESULT {
-        return;
+    if res.len() == record::RESULT {
+        put_word(res, 0, answer as usize);
+        put_word(res, 4, number);
+        put_word(res, 8, count as usize);
+        put_word(res, 12, field as usize);
     }
-    put_word(res, 0, answer as usize);
-    put_word(res, 4, number);
-    put_word(res, 8, count as usize);
-    put_word(res, 12, field as usize);
 }
 
 // The same, for a call that ends with it: the answer is given back.
@@ -112,66 +94,41 @@ pub fn put_answer(res: &mut [u8], answer: u32, number: usize, count: u32, field:
 pub fn put_plan_result(res: &mut [u8], answer: u32, number: u32)
     ensures { res.new ≡ plan_result_after answer number res.old }
 {
-    if res.len() != record::PLAN_RESULT {
-        return;
+    if res.len() == record::PLAN_RESULT {
+        put_word(res, 0, answer as usize);
+        put_word(res, 4, number as usize);
     }
-    put_word(res, 0, answer as usize);
-    put_word(res, 4, number as usize);
 }
 
 // Nothing is written yet, and nothing replied: all of s is 0.
 pub fn clear_all(s: &mut [u8])
     ensures { s.new ≡ replicate (length s.old) 0 }
 {
-    let mut i = 0;
-    while i < s.len() {
-        s[i] = 0;
-        i += 1;
-    }
+    s.fill(0);
 }
 
 // The reply of record `number`, counted from 0.
 pub fn put_reply(replies: &mut [u8], number: usize, reply: Reply, m: Match)
     ensures { replies.new ≡ replies_with number (reply_bytes reply m) replies.old }
 {
-    if record::REPLY_PLACES <= number {
-        return;
+    if number < record::REPLY_PLACES && replies.len() == record::REPLIES {
+        put_four(replies, 4 * number, reply.bytes(m));
     }
-    if replies.len() != record::REPLIES {
-        return;
-    }
-    put_four(
-        replies,
-        4 * number,
-        record::reply_kind(reply),
-        record::reply_value(reply),
-        record::reply_mask(reply),
-        record::match_number(m),
-    );
 }
 
-// A number, low byte first.
+// A number's four low bytes, the lowest first.
 fn put_word(s: &mut [u8], at: usize, a: usize)
     requires { at + 4 ≤ length s.old }
     ensures { s.new ≡ sets s.old at (word a) }
 {
-    put_four(
-        s,
-        at,
-        (a % 256) as u8,
-        (a / 256 % 256) as u8,
-        (a / 65536 % 256) as u8,
-        (a / 16777216 % 256) as u8,
-    );
+    let [a0, a1, a2, a3, ..] = a.to_le_bytes();
+    put_four(s, at, [a0, a1, a2, a3]);
 }
 
 // Four bytes, one after the other.
-fn put_four(s: &mut [u8], at: usize, a: u8, b: u8, c: u8, d: u8)
+fn put_four(s: &mut [u8], at: usize, bytes: [u8; 4])
     requires { at + 4 ≤ length s.old }
-    ensures { s.new ≡ sets s.old at (a ∷ b ∷ c ∷ d ∷ []) }
+    ensures { s.new ≡ sets s.old at bytes }
 {
-    s[at] = a;
-    s[at + 1] = b;
-    s[at + 2] = c;
-    s[at + 3] = d;
+    s[at..at + 4].copy_from_slice(&bytes);
 }
