@@ -8,6 +8,7 @@ use mathlib.Core.List.{List}
 use lib.ListN.{length, length-set}
 use lib.Dec.{ltb, leb, eqb}
 use borrow.Author.Tests.{ltb-true}
+use Rattle.std.specs.Prelude.{Option, Some, None}
 use Rattle.law.specs.Choice.{split, true_not_false}
 use Rattle.law.specs.Words.{pick}
 use Rattle.record.specs.declared.FlashEvent.{FlashEvent}
@@ -25,8 +26,6 @@ use Rattle.flash.specs.Side.{Side, side_start, side_bus, side_line}
 use Rattle.flash.specs.Good.{SentOk, FrameOk, StatusBits, FlashStatusOk, CycleOk, WaitsOp, Waits, IsKnown, InCycle, is_program, sends_page, writes_page, BlankUnless, Shut, fact_of, FactOk, Fields, Good}
 use Rattle.flash.specs.declared.Op.{Op}
 use Rattle.flash.specs.declared.Op.TheVariants.{WriteEnable, WriteDisable, ReadStatus, WriteStatus, Read, Program, SectorErase, ChipErase, Identify}
-use Rattle.flash.specs.declared.Decoded.{Decoded}
-use Rattle.flash.specs.declared.Decoded.TheVariants.{Is, Unknown}
 use Rattle.flash.specs.declared.LockFact.{LockFact}
 use Rattle.flash.specs.declared.LockFact.TheVariants.{Absent, Free, Locked}
 use Rattle.flash.specs.declared.Sent.{Sent}
@@ -34,8 +33,6 @@ use Rattle.flash.specs.declared.FlashFrame.{FlashFrame}
 use Rattle.flash.specs.declared.FlashFrame.TheVariants.{Idle, Void, Selected, Command}
 use Rattle.flash.specs.declared.FlashCycle.{FlashCycle}
 use Rattle.flash.specs.declared.FlashCycle.TheVariants as cycle
-use Rattle.flash.specs.declared.FlashStatus.{FlashStatus}
-use Rattle.flash.specs.declared.FlashStatus.TheVariants.{Lost, Known}
 use Rattle.flash.specs.declared.Flash.{Flash}
 use Rattle.flash.specs.declared.Effect.{Effect}
 use Rattle.flash.specs.declared.Effect.TheVariants.{Nothing, Status, Start}
@@ -93,45 +90,39 @@ pub kept_all : (b : ℕ) → StatusOk b → kept_bits b ≡ b
 kept_all b h = omega (arith, h.0, h.1, h.2)
 
 -- ---- parts of a state
-long_in : (c : FlashCycle) (p : List ℕ) → length p ≡ flash_page → length (page_in c p) ≡ flash_page
-long_in cycle.None p h = refl
-long_in (cycle.Program n) p h = h
-long_in (cycle.SectorErase n) p h = refl
-long_in cycle.ChipErase p h = refl
-long_in (cycle.WriteStatus bits) p h = refl
+long_in : (c : Option FlashCycle) (p : List ℕ) → length p ≡ flash_page → length (page_in c p) ≡ flash_page
+long_in None p h = refl
+long_in (Some (cycle.Program n)) p h = h
+long_in (Some (cycle.SectorErase n)) p h = refl
+long_in (Some cycle.ChipErase) p h = refl
+long_in (Some (cycle.WriteStatus bits)) p h = refl
 
 blank_unless : (t : Bool) → BlankUnless t blank
 blank_unless true = tt
 blank_unless false = refl
 
-blank_in : (c : FlashCycle) (t : Bool) (p : List ℕ) → BlankUnless (pick (writes_page c) true t) (page_in c p)
-blank_in cycle.None t p = blank_unless t
-blank_in (cycle.Program n) t p = tt
-blank_in (cycle.SectorErase n) t p = blank_unless t
-blank_in cycle.ChipErase t p = blank_unless t
-blank_in (cycle.WriteStatus bits) t p = blank_unless t
+blank_in : (c : Option FlashCycle) (t : Bool) (p : List ℕ) → BlankUnless (pick (writes_page c) true t) (page_in c p)
+blank_in None t p = blank_unless t
+blank_in (Some (cycle.Program n)) t p = tt
+blank_in (Some (cycle.SectorErase n)) t p = blank_unless t
+blank_in (Some cycle.ChipErase) t p = blank_unless t
+blank_in (Some (cycle.WriteStatus bits)) t p = blank_unless t
 
 blank_any : (t : Bool) (p : List ℕ) → BlankUnless (pick t true true) p
 blank_any true p = tt
 blank_any false p = tt
 
-in_cycle_of : (c : FlashCycle) {P : Type 0} → P → InCycle c P
-in_cycle_of cycle.None p = tt
-in_cycle_of (cycle.Program n) p = p
-in_cycle_of (cycle.SectorErase n) p = p
-in_cycle_of cycle.ChipErase p = p
-in_cycle_of (cycle.WriteStatus bits) p = p
+in_cycle_of : (c : Option FlashCycle) {P : Type 0} → P → InCycle c P
+in_cycle_of None p = tt
+in_cycle_of (Some c) p = p
 
-in_cycle_as : (c : FlashCycle) {P Q : Type 0} → (P → Q) → InCycle c P → InCycle c Q
-in_cycle_as cycle.None f h = tt
-in_cycle_as (cycle.Program n) f h = f h
-in_cycle_as (cycle.SectorErase n) f h = f h
-in_cycle_as cycle.ChipErase f h = f h
-in_cycle_as (cycle.WriteStatus bits) f h = f h
+in_cycle_as : (c : Option FlashCycle) {P Q : Type 0} → (P → Q) → InCycle c P → InCycle c Q
+in_cycle_as None f h = tt
+in_cycle_as (Some c) f h = f h
 
 -- a chip whose frame has no data: nothing is asked of its page
-pub bare_good : (fr : FlashFrame) (c : FlashCycle) (st : FlashStatus) (p : List ℕ) (supply lock : Bool) → FrameOk fr → CycleOk c → FlashStatusOk st → length p ≡ flash_page
-    → InCycle c (Waits fr) → InCycle c (IsKnown st) → FactOk (fact_of fr) st lock → (supply ≡ false → (c ≡ cycle.None) × Shut fr)
+pub bare_good : (fr : FlashFrame) (c : Option FlashCycle) (st : Option ℕ) (p : List ℕ) (supply lock : Bool) → FrameOk fr → CycleOk c → FlashStatusOk st → length p ≡ flash_page
+    → InCycle c (Waits fr) → InCycle c (IsKnown st) → FactOk (fact_of fr) st lock → (supply ≡ false → (c ≡ None) × Shut fr)
     → Fields fr c st (page_in c p) supply lock
 bare_good fr c st p supply lock f d s l w k x o = record {
   in_frame = f;
@@ -150,22 +141,19 @@ lit : {P : Type 0} → true ≡ false → P
 lit e = absurd (true_not_false e)
 
 -- ---- `sel`
-fact_waits : (c : FlashCycle) (st : FlashStatus) (lock : Bool) → InCycle c (fact_at (running_of c) st lock ≡ Absent)
-fact_waits cycle.None st lock = tt
-fact_waits (cycle.Program n) st lock = refl
-fact_waits (cycle.SectorErase n) st lock = refl
-fact_waits cycle.ChipErase st lock = refl
-fact_waits (cycle.WriteStatus bits) st lock = refl
+fact_waits : (c : Option FlashCycle) (st : Option ℕ) (lock : Bool) → InCycle c (fact_at (running_of c) st lock ≡ Absent)
+fact_waits None st lock = tt
+fact_waits (Some c) st lock = refl
 
-level_ok : (t lock : Bool) (s : ℕ) → wpen s ≡ t → FactOk (pick t (pick lock Locked Free) Absent) (Known s) lock
+level_ok : (t lock : Bool) (s : ℕ) → wpen s ≡ t → FactOk (pick t (pick lock Locked Free) Absent) (Some s) lock
 level_ok true true s e = e
 level_ok true false s e = (e, refl)
 level_ok false lock s e = tt
 
-fact_ok : (busy : Bool) (st : FlashStatus) (lock : Bool) → FactOk (fact_at busy st lock) st lock
+fact_ok : (busy : Bool) (st : Option ℕ) (lock : Bool) → FactOk (fact_at busy st lock) st lock
 fact_ok true st lock = tt
-fact_ok false Lost lock = tt
-fact_ok false (Known s) lock = level_ok (wpen s) lock s refl
+fact_ok false None lock = tt
+fact_ok false (Some s) lock = level_ok (wpen s) lock s refl
 
 -- ---- a byte
 op_code_ok : SentOk op_code_sent
@@ -186,7 +174,7 @@ served_waits Identify e = lit (sym e)
 pub record Opens (fact : LockFact) (fr : FlashFrame) : Type 0 where
   pub ok : FrameOk fr
   pub waits : fact ≡ Absent → Waits fr
-  pub said : (st : FlashStatus) (lock : Bool) → FactOk fact st lock → FactOk (fact_of fr) st lock
+  pub said : (st : Option ℕ) (lock : Bool) → FactOk fact st lock → FactOk (fact_of fr) st lock
 
 void_opens : (fact : LockFact) → Opens fact Void
 void_opens fact = record { ok = tt; waits = λ e. tt; said = λ st lock h. tt }
@@ -195,22 +183,22 @@ busy_opens : (op : Op) (fact : LockFact) (t : Bool) → served true op ≡ t →
 busy_opens op fact true e = record { ok = op_code_ok; waits = λ a. (served_waits op e, a); said = λ st lock h. h }
 busy_opens op fact false e = void_opens fact
 
-opens_busy : (d : Decoded) (fact : LockFact) → Opens fact (opened_by true d fact)
-opens_busy (Is op) fact = busy_opens op fact (served true op) refl
-opens_busy Unknown fact = void_opens fact
+opens_busy : (d : Option Op) (fact : LockFact) → Opens fact (opened_by true d fact)
+opens_busy (Some op) fact = busy_opens op fact (served true op) refl
+opens_busy None fact = void_opens fact
 
 -- with no cycle
 pub record OpensIdle (fact : LockFact) (fr : FlashFrame) : Type 0 where
   pub ok : FrameOk fr
-  pub said : (st : FlashStatus) (lock : Bool) → FactOk fact st lock → FactOk (fact_of fr) st lock
+  pub said : (st : Option ℕ) (lock : Bool) → FactOk fact st lock → FactOk (fact_of fr) st lock
 
 idle_opens : (op : Op) (fact : LockFact) (t : Bool) → OpensIdle fact (pick t (Command op op_code_sent fact) Void)
 idle_opens op fact true = record { ok = op_code_ok; said = λ st lock h. h }
 idle_opens op fact false = record { ok = tt; said = λ st lock h. tt }
 
-opens_idle : (d : Decoded) (fact : LockFact) → OpensIdle fact (opened_by false d fact)
-opens_idle (Is op) fact = idle_opens op fact (served false op)
-opens_idle Unknown fact = record { ok = tt; said = λ st lock h. tt }
+opens_idle : (d : Option Op) (fact : LockFact) → OpensIdle fact (opened_by false d fact)
+opens_idle (Some op) fact = idle_opens op fact (served false op)
+opens_idle None fact = record { ok = tt; said = λ st lock h. tt }
 
 long_after : (op : Op) (s : Sent) (si : ℕ) (p : List ℕ) → length p ≡ flash_page → length (page_after op s si p) ≡ flash_page
 long_after WriteEnable s si p h = h
@@ -237,29 +225,17 @@ blank_after Identify t s si p h = h
 abbrev After : Flash → Bool → Bool → Type 0
 After f supply lock = Fields f.frame f.cycle f.status f.page supply lock
 
-first_good : (c : FlashCycle) (fact : LockFact) (st : FlashStatus) (p : List ℕ) (si : ℕ) (lock : Bool) → Fields (Selected fact) c st p true lock
+first_good : (c : Option FlashCycle) (fact : LockFact) (st : Option ℕ) (p : List ℕ) (si : ℕ) (lock : Bool) → Fields (Selected fact) c st p true lock
     → Fields (opened_by (running_of c) (decode_of si) fact) c st (page_in c p) true lock
-first_good cycle.None fact st p si lock h =
+first_good None fact st p si lock h =
     let o = opens_idle (decode_of si) fact in
-    bare_good (opened_by false (decode_of si) fact) cycle.None st p true lock o.ok tt h.in_status h.whole tt tt (o.said st lock h.in_fact) lit
-first_good (cycle.Program n) fact st p si lock h =
+    bare_good (opened_by false (decode_of si) fact) None st p true lock o.ok tt h.in_status h.whole tt tt (o.said st lock h.in_fact) lit
+first_good (Some c) fact st p si lock h =
     let o = opens_busy (decode_of si) fact in
-    bare_good (opened_by true (decode_of si) fact) (cycle.Program n) st p true lock o.ok h.in_cycle_lem h.in_status h.whole (o.waits h.waits) h.known
-    (o.said st lock h.in_fact) lit
-first_good (cycle.SectorErase n) fact st p si lock h =
-    let o = opens_busy (decode_of si) fact in
-    bare_good (opened_by true (decode_of si) fact) (cycle.SectorErase n) st p true lock o.ok h.in_cycle_lem h.in_status h.whole (o.waits h.waits) h.known
-    (o.said st lock h.in_fact) lit
-first_good cycle.ChipErase fact st p si lock h =
-    let o = opens_busy (decode_of si) fact in
-    bare_good (opened_by true (decode_of si) fact) cycle.ChipErase st p true lock o.ok h.in_cycle_lem h.in_status h.whole (o.waits h.waits) h.known
-    (o.said st lock h.in_fact) lit
-first_good (cycle.WriteStatus bits) fact st p si lock h =
-    let o = opens_busy (decode_of si) fact in
-    bare_good (opened_by true (decode_of si) fact) (cycle.WriteStatus bits) st p true lock o.ok h.in_cycle_lem h.in_status h.whole (o.waits h.waits) h.known
+    bare_good (opened_by true (decode_of si) fact) (Some c) st p true lock o.ok h.in_cycle_lem h.in_status h.whole (o.waits h.waits) h.known
     (o.said st lock h.in_fact) lit
 
-byte_good : (fr : FlashFrame) (c : FlashCycle) (st : FlashStatus) (p : List ℕ) (si w : ℕ) (lock : Bool) → Fields fr c st p true lock
+byte_good : (fr : FlashFrame) (c : Option FlashCycle) (st : Option ℕ) (p : List ℕ) (si w : ℕ) (lock : Bool) → Fields fr c st p true lock
     → After (byte_in fr (record { frame = fr; cycle = c; status = st; page = p }) si w).chip true lock
 byte_good Idle c st p si w lock h = h
 byte_good Void c st p si w lock h = h
@@ -277,23 +253,23 @@ byte_good (Command op s fact) c st p si w lock h = record {
 }
 
 -- ---- `des`
-abbrev EffectOk : FlashStatus → Effect → Type 0
+abbrev EffectOk : Option ℕ → Effect → Type 0
 EffectOk st Nothing = Unit {0}
 EffectOk st (Status s) = StatusBits s
-EffectOk st (Start c) = CycleOk c × IsKnown st
+EffectOk st (Start c) = CycleOk (Some c) × IsKnown st
 
-start_ok : (t : Bool) (s : ℕ) (c : FlashCycle) → CycleOk c → EffectOk (Known s) (starts_if t c)
+start_ok : (t : Bool) (s : ℕ) (c : FlashCycle) → CycleOk (Some c) → EffectOk (Some s) (starts_if t c)
 start_ok true s c h = (h, tt)
 start_ok false s c h = tt
 
-set_ok : (t : Bool) (s n : ℕ) → StatusBits n → EffectOk (Known s) (sets_if t n)
+set_ok : (t : Bool) (s n : ℕ) → StatusBits n → EffectOk (Some s) (sets_if t n)
 set_ok true s n h = h
 set_ok false s n h = tt
 
-wrsr_ok : (p : ℕ) → CycleOk (cycle.WriteStatus (kept_bits (p % 256)))
+wrsr_ok : (p : ℕ) → CycleOk (Some (cycle.WriteStatus (kept_bits (p % 256))))
 wrsr_ok p = (omega arith, omega arith, omega arith)
 
-known_ok : (op : Op) (b : Sent) (fact : LockFact) (s : ℕ) → SentOk b → s < 256 → EffectOk (Known s) (known_effect op b fact s)
+known_ok : (op : Op) (b : Sent) (fact : LockFact) (s : ℕ) → SentOk b → s < 256 → EffectOk (Some s) (known_effect op b fact s)
 known_ok WriteEnable b fact s h l = set_ok (eqb b.count 1) s (with_enable s) (enable_bits s l)
 known_ok WriteDisable b fact s h l = set_ok (eqb b.count 1) s (kept_bits s) (kept_bits_lem s l)
 known_ok ReadStatus b fact s h l = tt
@@ -307,20 +283,20 @@ known_ok SectorErase b fact s h l =
 known_ok ChipErase b fact s h l = start_ok (may_start (eqb b.count 1) s (sector_locked s 1)) s cycle.ChipErase tt
 known_ok Identify b fact s h l = tt
 
-effect_ok : (fr : FlashFrame) (st : FlashStatus) → FrameOk fr → FlashStatusOk st → EffectOk st (effect_in fr st)
+effect_ok : (fr : FlashFrame) (st : Option ℕ) → FrameOk fr → FlashStatusOk st → EffectOk st (effect_in fr st)
 effect_ok Idle st h k = tt
 effect_ok Void st h k = tt
 effect_ok (Selected fact) st h k = tt
-effect_ok (Command op b fact) Lost h k = tt
-effect_ok (Command op b fact) (Known s) h k = known_ok op b fact s h k.byte
+effect_ok (Command op b fact) None h k = tt
+effect_ok (Command op b fact) (Some s) h k = known_ok op b fact s h k.byte
 
 closed_good : (f : Flash) (e : Effect) (lock : Bool) → After f true lock → EffectOk f.status e → After (closed_by f e).chip true lock
 closed_good f Nothing lock h k =
     bare_good Idle f.cycle f.status f.page true lock tt h.in_cycle_lem h.in_status h.whole (in_cycle_of f.cycle tt) h.known tt lit
 closed_good f (Status s) lock h k =
-    bare_good Idle f.cycle (Known s) f.page true lock tt h.in_cycle_lem k h.whole (in_cycle_of f.cycle tt) (in_cycle_of f.cycle tt) tt lit
+    bare_good Idle f.cycle (Some s) f.page true lock tt h.in_cycle_lem k h.whole (in_cycle_of f.cycle tt) (in_cycle_of f.cycle tt) tt lit
 closed_good f (Start c) lock h k =
-    bare_good Idle c f.status f.page true lock tt k.0 h.in_status h.whole (in_cycle_of c tt) (in_cycle_of c k.1) tt lit
+    bare_good Idle (Some c) f.status f.page true lock tt k.0 h.in_status h.whole tt k.1 tt lit
 
 -- ---- `end`
 no_fact : (fr : FlashFrame) → Waits fr → fact_of fr ≡ Absent
@@ -329,29 +305,26 @@ no_fact Void h = refl
 no_fact (Selected fact) h = h
 no_fact (Command op b fact) h = h.1
 
-absent_ok : (fact : LockFact) (st : FlashStatus) (lock : Bool) → fact ≡ Absent → FactOk fact st lock
+absent_ok : (fact : LockFact) (st : Option ℕ) (lock : Bool) → fact ≡ Absent → FactOk fact st lock
 absent_ok fact st lock e = subst (λ (x : LockFact). FactOk x st lock) (sym e) tt
 
-end_ok : (c : FlashCycle) (st : FlashStatus) → CycleOk c → FlashStatusOk st → FlashStatusOk (end_status c st)
-end_ok c Lost d h = tt
-end_ok cycle.None (Known s) d h = h
-end_ok (cycle.Program n) (Known s) d h = kept_bits_lem s h.byte
-end_ok (cycle.SectorErase n) (Known s) d h = kept_bits_lem s h.byte
-end_ok cycle.ChipErase (Known s) d h = kept_bits_lem s h.byte
-end_ok (cycle.WriteStatus bits) (Known s) d h = bits_of bits d
+end_ok : (c : Option FlashCycle) (st : Option ℕ) → CycleOk c → FlashStatusOk st → FlashStatusOk (end_status c st)
+end_ok c None d h = tt
+end_ok None (Some s) d h = h
+end_ok (Some (cycle.Program n)) (Some s) d h = kept_bits_lem s h.byte
+end_ok (Some (cycle.SectorErase n)) (Some s) d h = kept_bits_lem s h.byte
+end_ok (Some cycle.ChipErase) (Some s) d h = kept_bits_lem s h.byte
+end_ok (Some (cycle.WriteStatus bits)) (Some s) d h = bits_of bits d
 
-after_end : (c : FlashCycle) (fr : FlashFrame) (st : FlashStatus) (p : List ℕ) (lock : Bool) → Waits fr → Fields fr c st p true lock → Fields fr cycle.None (end_status c st) blank true lock
+after_end : (c : Option FlashCycle) (fr : FlashFrame) (st : Option ℕ) (p : List ℕ) (lock : Bool) → Waits fr → Fields fr c st p true lock → Fields fr None (end_status c st) blank true lock
 after_end c fr st p lock w h =
-    bare_good fr cycle.None (end_status c st) p true lock h.in_frame tt (end_ok c st h.in_cycle_lem h.in_status) h.whole tt tt
+    bare_good fr None (end_status c st) p true lock h.in_frame tt (end_ok c st h.in_cycle_lem h.in_status) h.whole tt tt
     (absent_ok (fact_of fr) (end_status c st) lock (no_fact fr w)) lit
 
-end_good : (c : FlashCycle) (fr : FlashFrame) (st : FlashStatus) (p : List ℕ) (w : ℕ) (lock : Bool) → Fields fr c st p true lock
+end_good : (c : Option FlashCycle) (fr : FlashFrame) (st : Option ℕ) (p : List ℕ) (w : ℕ) (lock : Bool) → Fields fr c st p true lock
     → After (powered_of (record { frame = fr; cycle = c; status = st; page = p }) event.End lock w).chip true lock
-end_good cycle.None fr st p w lock h = h
-end_good (cycle.Program n) fr st p w lock h = after_end (cycle.Program n) fr st p lock h.waits h
-end_good (cycle.SectorErase n) fr st p w lock h = after_end (cycle.SectorErase n) fr st p lock h.waits h
-end_good cycle.ChipErase fr st p w lock h = after_end cycle.ChipErase fr st p lock h.waits h
-end_good (cycle.WriteStatus bits) fr st p w lock h = after_end (cycle.WriteStatus bits) fr st p lock h.waits h
+end_good None fr st p w lock h = h
+end_good (Some c) fr st p w lock h = after_end (Some c) fr st p lock h.waits h
 
 -- ---- a record of channel F
 powered_good : (f : Flash) (e : FlashEvent) (w : ℕ) (lock : Bool) → After f true lock → After (powered_of f e lock w).chip true lock
@@ -401,17 +374,17 @@ void_fact Void = refl
 void_fact (Selected fact) = refl
 void_fact (Command op b fact) = refl
 
-off_ok : (c : FlashCycle) (st : FlashStatus) → FlashStatusOk st → FlashStatusOk (off_status c st)
-off_ok c Lost h = tt
-off_ok cycle.None (Known s) h = kept_bits_lem s h.byte
-off_ok (cycle.Program n) (Known s) h = kept_bits_lem s h.byte
-off_ok (cycle.SectorErase n) (Known s) h = kept_bits_lem s h.byte
-off_ok cycle.ChipErase (Known s) h = kept_bits_lem s h.byte
-off_ok (cycle.WriteStatus bits) (Known s) h = tt
+off_ok : (c : Option FlashCycle) (st : Option ℕ) → FlashStatusOk st → FlashStatusOk (off_status c st)
+off_ok c None h = tt
+off_ok None (Some s) h = kept_bits_lem s h.byte
+off_ok (Some (cycle.Program n)) (Some s) h = kept_bits_lem s h.byte
+off_ok (Some (cycle.SectorErase n)) (Some s) h = kept_bits_lem s h.byte
+off_ok (Some cycle.ChipErase) (Some s) h = kept_bits_lem s h.byte
+off_ok (Some (cycle.WriteStatus bits)) (Some s) h = tt
 
 off_good : (f : Flash) (lock : Bool) → After f true lock → After (supply_off_of f) false lock
 off_good f lock h =
-    bare_good (voided_by f.frame) cycle.None (off_status f.cycle f.status) f.page false lock (void_ok f.frame) tt (off_ok f.cycle f.status h.in_status)
+    bare_good (voided_by f.frame) None (off_status f.cycle f.status) f.page false lock (void_ok f.frame) tt (off_ok f.cycle f.status h.in_status)
     h.whole tt tt (absent_ok (fact_of (voided_by f.frame)) (off_status f.cycle f.status) lock (void_fact f.frame)) (λ e. (refl, void_shut f.frame))
 
 lock_frame : (fr : FlashFrame) → FrameOk fr → FrameOk (locked_frame fr)
@@ -438,7 +411,7 @@ lock_sends Void = refl
 lock_sends (Selected fact) = refl
 lock_sends (Command op b fact) = refl
 
-locked_ok : (fact : LockFact) (st : FlashStatus) → FactOk fact st false → FactOk (locked_fact fact) st true
+locked_ok : (fact : LockFact) (st : Option ℕ) → FactOk fact st false → FactOk (locked_fact fact) st true
 locked_ok Absent st h = tt
 locked_ok Free st h = h.0
 locked_ok Locked st h = h
@@ -462,7 +435,7 @@ lock_good f supply h = record {
   dark = λ e. ((h.dark e).0, lock_shut f.frame (h.dark e).1);
 }
 
-freed_ok : (fact : LockFact) (st : FlashStatus) (lock : Bool) → FactOk fact st lock → FactOk fact st false
+freed_ok : (fact : LockFact) (st : Option ℕ) (lock : Bool) → FactOk fact st lock → FactOk fact st false
 freed_ok Absent st lock h = tt
 freed_ok Free st lock h = (h.0, refl)
 freed_ok Locked st lock h = h

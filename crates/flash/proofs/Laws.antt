@@ -8,6 +8,7 @@ use mathlib.Core.Path.{◌≡◌, refl, sym, ap, subst, ◌∙◌}
 use mathlib.Core.List.{List}
 use mathlib.Core.Logic.{◌⊎◌, inl, inr}
 use lib.Dec.{ltb, leb, eqb}
+use Rattle.std.specs.Prelude.{Option, Some, None}
 use Rattle.law.specs.Choice.{of_both, true_not_false}
 use Rattle.law.specs.Words.{pick}
 use Rattle.tied.specs.Control.{Cycle, idle, runs, Kind, starts, ends, fetches, plain, Lawful}
@@ -27,16 +28,12 @@ use Rattle.flash.specs.Good.{WaitsOp, Waits, InCycle, is_program, Shut, CycleOk,
 use Rattle.flash.specs.Told.{Running, programs, erases, erases_all, sets_status, bits_of, runs_in, runs_of, ToldFrame, closed, opened, command, Told, told_as, told_byte, told_put, later_of, told_bits, told_later, told, starts_of, TracksFrame, TracksStatus, TracksCycle, Tracks, hint_by, hint_in, hint_of, flash_control}
 use Rattle.flash.specs.declared.Op.{Op}
 use Rattle.flash.specs.declared.Op.TheVariants.{WriteEnable, WriteDisable, ReadStatus, WriteStatus, Read, Program, SectorErase, ChipErase, Identify}
-use Rattle.flash.specs.declared.Decoded.{Decoded}
-use Rattle.flash.specs.declared.Decoded.TheVariants.{Is, Unknown}
 use Rattle.flash.specs.declared.LockFact.{LockFact}
 use Rattle.flash.specs.declared.Sent.{Sent}
 use Rattle.flash.specs.declared.FlashFrame.{FlashFrame}
 use Rattle.flash.specs.declared.FlashFrame.TheVariants.{Idle, Void, Selected, Command}
 use Rattle.flash.specs.declared.FlashCycle.{FlashCycle}
 use Rattle.flash.specs.declared.FlashCycle.TheVariants as cycle
-use Rattle.flash.specs.declared.FlashStatus.{FlashStatus}
-use Rattle.flash.specs.declared.FlashStatus.TheVariants.{Lost, Known}
 use Rattle.flash.specs.declared.Flash.{Flash}
 use Rattle.flash.specs.declared.FlashStep.{FlashStep}
 use Rattle.flash.specs.declared.Effect.{Effect}
@@ -62,11 +59,11 @@ identity_quiet : (n : ℕ) → QuietReply (identity_of n)
 identity_quiet n =
     of_both QuietReply (eqb n 1) (Given 0x1f) (pick (eqb n 2) (Given 0x60) Silent) tt (of_both QuietReply (eqb n 2) (Given 0x60) Silent tt tt)
 
-status_quiet : (busy : Bool) (st : FlashStatus) → QuietReply (status_reply busy st)
-status_quiet busy Lost = tt
-status_quiet busy (Known s) = tt
+status_quiet : (busy : Bool) (st : Option ℕ) → QuietReply (status_reply busy st)
+status_quiet busy None = tt
+status_quiet busy (Some s) = tt
 
-reply_quiet : (op : Op) (s : Sent) (busy : Bool) (st : FlashStatus) (w : ℕ) → QuietReply (reply_to op s busy st w)
+reply_quiet : (op : Op) (s : Sent) (busy : Bool) (st : Option ℕ) (w : ℕ) → QuietReply (reply_to op s busy st w)
 reply_quiet WriteEnable s busy st w = tt
 reply_quiet WriteDisable s busy st w = tt
 reply_quiet ReadStatus s busy st w = status_quiet busy st
@@ -95,12 +92,12 @@ never_idle : (e : Running) → runs e ≡ idle → ⊥
 unfolding is_idle
 never_idle e h = true_not_false (sym (ap is_idle h))
 
-kept : (c : FlashCycle) (st : FlashStatus) (p : List ℕ) → runs_in c st (page_in c p) ≡ runs_in c st p
-kept cycle.None st p = refl
-kept (cycle.Program n) st p = refl
-kept (cycle.SectorErase n) st p = refl
-kept cycle.ChipErase st p = refl
-kept (cycle.WriteStatus bits) st p = refl
+kept : (c : Option FlashCycle) (st : Option ℕ) (p : List ℕ) → runs_in c st (page_in c p) ≡ runs_in c st p
+kept None st p = refl
+kept (Some (cycle.Program n)) st p = refl
+kept (Some (cycle.SectorErase n)) st p = refl
+kept (Some cycle.ChipErase) st p = refl
+kept (Some (cycle.WriteStatus bits)) st p = refl
 
 quiet_says : (k : Kind) → Quiet k → Says k idle idle
 quiet_says starts h = refl
@@ -108,9 +105,9 @@ quiet_says ends h = absurd h
 quiet_says fetches h = (refl, refl)
 quiet_says plain h = refl
 
-status_says : (busy : Bool) (st : FlashStatus) (r : Cycle Running) → Says (skeleton_kind (status_reply busy st)) r r
-status_says busy Lost r = refl
-status_says busy (Known s) r = refl
+status_says : (busy : Bool) (st : Option ℕ) (r : Cycle Running) → Says (skeleton_kind (status_reply busy st)) r r
+status_says busy None r = refl
+status_says busy (Some s) r = refl
 
 -- in a cycle only RDSR is open
 waiting_says : (op : Op) (s : Sent) (fact : LockFact) (x : Flash) (si w : ℕ) → WaitsOp op → SaysStep (runs_of x) (further_of x op s fact si w)
@@ -124,19 +121,13 @@ waiting_says SectorErase s fact x si w h = absurd h
 waiting_says ChipErase s fact x si w h = absurd h
 waiting_says Identify s fact x si w h = absurd h
 
-further_says : (c : FlashCycle) (op : Op) (s : Sent) (fact : LockFact) (st : FlashStatus) (p : List ℕ) (si w : ℕ) → InCycle c (Waits (Command op s fact))
+further_says : (c : Option FlashCycle) (op : Op) (s : Sent) (fact : LockFact) (st : Option ℕ) (p : List ℕ) (si w : ℕ) → InCycle c (Waits (Command op s fact))
     → SaysStep (runs_in c st p) (further_of (record { frame = Command op s fact; cycle = c; status = st; page = p }) op s fact si w)
-further_says cycle.None op s fact st p si w h = quiet_says (skeleton_kind (reply_to op s false st w)) (reply_quiet op s false st w)
-further_says (cycle.Program n) op s fact st p si w h =
-    waiting_says op s fact (record { frame = Command op s fact; cycle = cycle.Program n; status = st; page = p }) si w h.0
-further_says (cycle.SectorErase n) op s fact st p si w h =
-    waiting_says op s fact (record { frame = Command op s fact; cycle = cycle.SectorErase n; status = st; page = p }) si w h.0
-further_says cycle.ChipErase op s fact st p si w h =
-    waiting_says op s fact (record { frame = Command op s fact; cycle = cycle.ChipErase; status = st; page = p }) si w h.0
-further_says (cycle.WriteStatus bits) op s fact st p si w h =
-    waiting_says op s fact (record { frame = Command op s fact; cycle = cycle.WriteStatus bits; status = st; page = p }) si w h.0
+further_says None op s fact st p si w h = quiet_says (skeleton_kind (reply_to op s false st w)) (reply_quiet op s false st w)
+further_says (Some c) op s fact st p si w h =
+    waiting_says op s fact (record { frame = Command op s fact; cycle = Some c; status = st; page = p }) si w h.0
 
-byte_says : (fr : FlashFrame) (c : FlashCycle) (st : FlashStatus) (p : List ℕ) (si w : ℕ) → InCycle c (Waits fr)
+byte_says : (fr : FlashFrame) (c : Option FlashCycle) (st : Option ℕ) (p : List ℕ) (si w : ℕ) → InCycle c (Waits fr)
     → SaysStep (runs_in c st p) (byte_in fr (record { frame = fr; cycle = c; status = st; page = p }) si w)
 byte_says Idle c st p si w h = refl
 byte_says Void c st p si w h = refl
@@ -144,24 +135,24 @@ byte_says (Selected fact) c st p si w h = kept c st p
 byte_says (Command op s fact) c st p si w h = further_says c op s fact st p si w h
 
 -- with no cycle; and in one, where nothing starts
-effect_says : (e : Effect) (fr : FlashFrame) (st : FlashStatus) (p : List ℕ) → SaysStep idle (closed_by (record { frame = fr; cycle = cycle.None; status = st; page = p }) e)
+effect_says : (e : Effect) (fr : FlashFrame) (st : Option ℕ) (p : List ℕ) → SaysStep idle (closed_by (record { frame = fr; cycle = None; status = st; page = p }) e)
 effect_says Nothing fr st p = refl
 effect_says (Status s) fr st p = refl
 effect_says (Start c) fr st p = refl
 
-waiting_effect : (op : Op) (s : Sent) (fact : LockFact) (st : FlashStatus) → WaitsOp op → effect_of op s fact st ≡ Nothing
-waiting_effect op s fact Lost h = refl
-waiting_effect WriteEnable s fact (Known b) h = absurd h
-waiting_effect WriteDisable s fact (Known b) h = absurd h
-waiting_effect ReadStatus s fact (Known b) h = refl
-waiting_effect WriteStatus s fact (Known b) h = absurd h
-waiting_effect Read s fact (Known b) h = absurd h
-waiting_effect Program s fact (Known b) h = absurd h
-waiting_effect SectorErase s fact (Known b) h = absurd h
-waiting_effect ChipErase s fact (Known b) h = absurd h
-waiting_effect Identify s fact (Known b) h = absurd h
+waiting_effect : (op : Op) (s : Sent) (fact : LockFact) (st : Option ℕ) → WaitsOp op → effect_of op s fact st ≡ Nothing
+waiting_effect op s fact None h = refl
+waiting_effect WriteEnable s fact (Some b) h = absurd h
+waiting_effect WriteDisable s fact (Some b) h = absurd h
+waiting_effect ReadStatus s fact (Some b) h = refl
+waiting_effect WriteStatus s fact (Some b) h = absurd h
+waiting_effect Read s fact (Some b) h = absurd h
+waiting_effect Program s fact (Some b) h = absurd h
+waiting_effect SectorErase s fact (Some b) h = absurd h
+waiting_effect ChipErase s fact (Some b) h = absurd h
+waiting_effect Identify s fact (Some b) h = absurd h
 
-waits_nothing : (fr : FlashFrame) (st : FlashStatus) → Waits fr → effect_in fr st ≡ Nothing
+waits_nothing : (fr : FlashFrame) (st : Option ℕ) → Waits fr → effect_in fr st ≡ Nothing
 waits_nothing Idle st h = refl
 waits_nothing Void st h = refl
 waits_nothing (Selected fact) st h = refl
@@ -170,20 +161,17 @@ waits_nothing (Command op s fact) st h = waiting_effect op s fact st h.0
 nothing_says : (x : Flash) (e : Effect) → e ≡ Nothing → SaysStep (runs_of x) (closed_by x e)
 nothing_says x e h = subst (λ (z : Effect). SaysStep (runs_of x) (closed_by x z)) (sym h) (kept x.cycle x.status x.page)
 
-deselect_says : (c : FlashCycle) (fr : FlashFrame) (st : FlashStatus) (p : List ℕ) → InCycle c (Waits fr)
+deselect_says : (c : Option FlashCycle) (fr : FlashFrame) (st : Option ℕ) (p : List ℕ) → InCycle c (Waits fr)
     → SaysStep (runs_in c st p) (closed_by (record { frame = fr; cycle = c; status = st; page = p }) (effect_in fr st))
-deselect_says cycle.None fr st p h = effect_says (effect_in fr st) fr st p
-deselect_says (cycle.Program n) fr st p h = nothing_says (record { frame = fr; cycle = cycle.Program n; status = st; page = p }) (effect_in fr st) (waits_nothing fr st h)
-deselect_says (cycle.SectorErase n) fr st p h = nothing_says (record { frame = fr; cycle = cycle.SectorErase n; status = st; page = p }) (effect_in fr st) (waits_nothing fr st h)
-deselect_says cycle.ChipErase fr st p h = nothing_says (record { frame = fr; cycle = cycle.ChipErase; status = st; page = p }) (effect_in fr st) (waits_nothing fr st h)
-deselect_says (cycle.WriteStatus bits) fr st p h = nothing_says (record { frame = fr; cycle = cycle.WriteStatus bits; status = st; page = p }) (effect_in fr st) (waits_nothing fr st h)
+deselect_says None fr st p h = effect_says (effect_in fr st) fr st p
+deselect_says (Some c) fr st p h = nothing_says (record { frame = fr; cycle = Some c; status = st; page = p }) (effect_in fr st) (waits_nothing fr st h)
 
-end_says : (c : FlashCycle) (fr : FlashFrame) (st : FlashStatus) (p : List ℕ) → SaysStep (runs_in c st p) (end_of (record { frame = fr; cycle = c; status = st; page = p }))
-end_says cycle.None fr st p = refl
-end_says (cycle.Program n) fr st p = (never_idle (programs n p), refl)
-end_says (cycle.SectorErase n) fr st p = (never_idle (erases n), refl)
-end_says cycle.ChipErase fr st p = (never_idle (erases_all (bits_of st)), refl)
-end_says (cycle.WriteStatus bits) fr st p = (never_idle (sets_status bits), refl)
+end_says : (c : Option FlashCycle) (fr : FlashFrame) (st : Option ℕ) (p : List ℕ) → SaysStep (runs_in c st p) (end_of (record { frame = fr; cycle = c; status = st; page = p }))
+end_says None fr st p = refl
+end_says (Some (cycle.Program n)) fr st p = (never_idle (programs n p), refl)
+end_says (Some (cycle.SectorErase n)) fr st p = (never_idle (erases n), refl)
+end_says (Some cycle.ChipErase) fr st p = (never_idle (erases_all (bits_of st)), refl)
+end_says (Some (cycle.WriteStatus bits)) fr st p = (never_idle (sets_status bits), refl)
 
 powered_says : (x : Flash) (e : FlashEvent) (lock : Bool) (w : ℕ) → InCycle x.cycle (Waits x.frame) → SaysStep (runs_of x) (powered_of x e lock w)
 powered_says x event.Select lock w h = kept x.cycle x.status x.page
@@ -228,12 +216,12 @@ quiet_later fetches f h = refl
 quiet_later plain f h = refl
 
 -- the first byte
-open_tracks : (op : Op) (fact : LockFact) (c : FlashCycle) (p : List ℕ) → served (running_of c) op ≡ true → TracksFrame (Command op op_code_sent fact) (page_in c p) (command op op_code_sent) blank
+open_tracks : (op : Op) (fact : LockFact) (c : Option FlashCycle) (p : List ℕ) → served (running_of c) op ≡ true → TracksFrame (Command op op_code_sent fact) (page_in c p) (command op op_code_sent) blank
 open_tracks op fact c p e = (refl, λ t. idle_page c op p e t)
   where
-    idle_page : (c : FlashCycle) (op : Op) (p : List ℕ) → served (running_of c) op ≡ true → is_program op ≡ true → page_in c p ≡ blank
-    idle_page cycle.None op p e t = refl
-    idle_page (cycle.Program n) op p e t = absurd (program_waits op e t)
+    idle_page : (c : Option FlashCycle) (op : Op) (p : List ℕ) → served (running_of c) op ≡ true → is_program op ≡ true → page_in c p ≡ blank
+    idle_page None op p e t = refl
+    idle_page (Some (cycle.Program n)) op p e t = absurd (program_waits op e t)
       where
         program_waits : (op : Op) → served true op ≡ true → is_program op ≡ true → ⊥
         program_waits WriteEnable e t = true_not_false (sym t)
@@ -245,24 +233,24 @@ open_tracks op fact c p e = (refl, λ t. idle_page c op p e t)
         program_waits SectorErase e t = true_not_false (sym t)
         program_waits ChipErase e t = true_not_false (sym t)
         program_waits Identify e t = true_not_false (sym t)
-    idle_page (cycle.SectorErase n) op p e t = refl
-    idle_page cycle.ChipErase op p e t = refl
-    idle_page (cycle.WriteStatus bits) op p e t = refl
+    idle_page (Some (cycle.SectorErase n)) op p e t = refl
+    idle_page (Some cycle.ChipErase) op p e t = refl
+    idle_page (Some (cycle.WriteStatus bits)) op p e t = refl
 
-served_tracks : (t : Bool) (op : Op) (fact : LockFact) (c : FlashCycle) (p : List ℕ) → served (running_of c) op ≡ t
+served_tracks : (t : Bool) (op : Op) (fact : LockFact) (c : Option FlashCycle) (p : List ℕ) → served (running_of c) op ≡ t
     → TracksFrame (pick t (Command op op_code_sent fact) Void) (page_in c p) (command op op_code_sent) blank
 served_tracks true op fact c p e = open_tracks op fact c p e
 served_tracks false op fact c p e = tt
 
-first_tracks : (d : Decoded) (fact : LockFact) (c : FlashCycle) (p : List ℕ) → TracksFrame (opened_by (running_of c) d fact) (page_in c p) (told_as d) blank
-first_tracks (Is op) fact c p = served_tracks (served (running_of c) op) op fact c p refl
-first_tracks Unknown fact c p = tt
+first_tracks : (d : Option Op) (fact : LockFact) (c : Option FlashCycle) (p : List ℕ) → TracksFrame (opened_by (running_of c) d fact) (page_in c p) (told_as d) blank
+first_tracks (Some op) fact c p = served_tracks (served (running_of c) op) op fact c p refl
+first_tracks None fact c p = tt
 
 -- a further byte
 page_tracks : (op : Op) (s : Sent) (si : ℕ) (p q : List ℕ) → (is_program op ≡ true → p ≡ q) → is_program op ≡ true → page_after op s si p ≡ page_after op s si q
 page_tracks op s si p q h t = ap (page_after op s si) (h t)
 
-byte_frame : (fr : FlashFrame) (c : FlashCycle) (st : FlashStatus) (p : List ℕ) (g : ToldFrame) (q : List ℕ) (si w : ℕ) → TracksFrame fr p g q
+byte_frame : (fr : FlashFrame) (c : Option FlashCycle) (st : Option ℕ) (p : List ℕ) (g : ToldFrame) (q : List ℕ) (si w : ℕ) → TracksFrame fr p g q
     → TracksFrame (byte_in fr (record { frame = fr; cycle = c; status = st; page = p }) si w).chip.frame
     (byte_in fr (record { frame = fr; cycle = c; status = st; page = p }) si w).chip.page (told_byte g si) (told_put g si q)
 byte_frame Idle c st p g q si w h = tt
@@ -291,10 +279,10 @@ byte_cycle Void x si w = refl
 byte_cycle (Selected fact) x si w = refl
 byte_cycle (Command op s fact) x si w = refl
 
-status_as : (st t : FlashStatus) (a b : ℕ) → t ≡ st → b ≡ a → TracksStatus st a → TracksStatus t b
+status_as : (st t : Option ℕ) (a b : ℕ) → t ≡ st → b ≡ a → TracksStatus st a → TracksStatus t b
 status_as st t a b e d h = rw (e, d) h
 
-cycle_as : (c d : FlashCycle) (a b l m : ℕ) → d ≡ c → b ≡ a → m ≡ l → TracksCycle c a l → TracksCycle d b m
+cycle_as : (c d : Option FlashCycle) (a b l m : ℕ) → d ≡ c → b ≡ a → m ≡ l → TracksCycle c a l → TracksCycle d b m
 cycle_as c d a b l m e f g h = rw (e, f, g) h
 
 byte_tracks : (x : Flash) (f : Told) (si so w : ℕ) → Tracks x f → TracksStep f (event.Byte si so) (byte_in x.frame x si w)
@@ -308,49 +296,49 @@ byte_tracks x f si so w h =
     }
 
 -- ---- `des`: the effect is the one that is told
-abbrev EffectTracks : FlashStatus → List ℕ → Told → Effect → Type 0
+abbrev EffectTracks : Option ℕ → List ℕ → Told → Effect → Type 0
 EffectTracks st p f Nothing = Unit {0}
 EffectTracks st p f (Status s) = kept_bits s ≡ f.bits
-EffectTracks st p f (Start c) = TracksCycle c f.bits (later_of f.frame f.bits) × (runs_in c st (page_in c p) ≡ runs (starts_of f))
+EffectTracks st p f (Start c) = TracksCycle (Some c) f.bits (later_of f.frame f.bits) × (runs_in (Some c) st (page_in (Some c) p) ≡ runs (starts_of f))
 
-start_tracks : (t : Bool) (st : FlashStatus) (p : List ℕ) (f : Told) (c : FlashCycle) → TracksCycle c f.bits (later_of f.frame f.bits)
-    → runs_in c st (page_in c p) ≡ runs (starts_of f) → EffectTracks st p f (starts_if t c)
+start_tracks : (t : Bool) (st : Option ℕ) (p : List ℕ) (f : Told) (c : FlashCycle) → TracksCycle (Some c) f.bits (later_of f.frame f.bits)
+    → runs_in (Some c) st (page_in (Some c) p) ≡ runs (starts_of f) → EffectTracks st p f (starts_if t c)
 start_tracks true st p f c h e = (h, e)
 start_tracks false st p f c h e = tt
 
-set_tracks : (t : Bool) (st : FlashStatus) (p : List ℕ) (f : Told) (s : ℕ) → kept_bits s ≡ f.bits → EffectTracks st p f (sets_if t s)
+set_tracks : (t : Bool) (st : Option ℕ) (p : List ℕ) (f : Told) (s : ℕ) → kept_bits s ≡ f.bits → EffectTracks st p f (sets_if t s)
 set_tracks true st p f s h = h
 set_tracks false st p f s h = tt
 
 known_tracks : (op : Op) (b : Sent) (fact : LockFact) (s : ℕ) (p q : List ℕ) (bits later : ℕ) → (is_program op ≡ true → p ≡ q) → kept_bits s ≡ bits
-    → EffectTracks (Known s) p (record { frame = command op b; page = q; bits = bits; later = later }) (known_effect op b fact s)
+    → EffectTracks (Some s) p (record { frame = command op b; page = q; bits = bits; later = later }) (known_effect op b fact s)
 known_tracks WriteEnable b fact s p q bits later h e =
-    set_tracks (eqb b.count 1) (Known s) p (record { frame = command WriteEnable b; page = q; bits = bits; later = later }) (with_enable s) (kept_enable s ∙ e)
+    set_tracks (eqb b.count 1) (Some s) p (record { frame = command WriteEnable b; page = q; bits = bits; later = later }) (with_enable s) (kept_enable s ∙ e)
 known_tracks WriteDisable b fact s p q bits later h e =
-    set_tracks (eqb b.count 1) (Known s) p (record { frame = command WriteDisable b; page = q; bits = bits; later = later }) (kept_bits s) (kept_kept s ∙ e)
+    set_tracks (eqb b.count 1) (Some s) p (record { frame = command WriteDisable b; page = q; bits = bits; later = later }) (kept_bits s) (kept_kept s ∙ e)
 known_tracks ReadStatus b fact s p q bits later h e = tt
 known_tracks WriteStatus b fact s p q bits later h e =
-    start_tracks (may_start (eqb b.count 2) s (lock_bars s fact)) (Known s) p (record { frame = command WriteStatus b; page = q; bits = bits; later = later })
+    start_tracks (may_start (eqb b.count 2) s (lock_bars s fact)) (Some s) p (record { frame = command WriteStatus b; page = q; bits = bits; later = later })
     (cycle.WriteStatus (kept_bits (b.place % 256))) refl refl
 known_tracks Read b fact s p q bits later h e = tt
 known_tracks Program b fact s p q bits later h e =
-    start_tracks (may_start (leb 5 b.count) s (sector_locked s (sector_of b.place))) (Known s) p (record { frame = command Program b; page = q; bits = bits; later = later })
+    start_tracks (may_start (leb 5 b.count) s (sector_locked s (sector_of b.place))) (Some s) p (record { frame = command Program b; page = q; bits = bits; later = later })
     (cycle.Program (b.place / 256)) refl (ap (λ (z : List ℕ). runs (programs (b.place / 256) z)) (h refl))
 known_tracks SectorErase b fact s p q bits later h e =
-    start_tracks (may_start (eqb b.count 4) s (sector_locked s (sector_of b.place))) (Known s) p (record { frame = command SectorErase b; page = q; bits = bits; later = later })
+    start_tracks (may_start (eqb b.count 4) s (sector_locked s (sector_of b.place))) (Some s) p (record { frame = command SectorErase b; page = q; bits = bits; later = later })
     (cycle.SectorErase (sector_of b.place)) refl refl
 known_tracks ChipErase b fact s p q bits later h e =
-    start_tracks (may_start (eqb b.count 1) s (sector_locked s 1)) (Known s) p (record { frame = command ChipErase b; page = q; bits = bits; later = later })
+    start_tracks (may_start (eqb b.count 1) s (sector_locked s 1)) (Some s) p (record { frame = command ChipErase b; page = q; bits = bits; later = later })
     cycle.ChipErase refl (ap (λ (z : ℕ). runs (erases_all z)) e)
 known_tracks Identify b fact s p q bits later h e = tt
 
-effect_tracks : (fr : FlashFrame) (st : FlashStatus) (p : List ℕ) (f : Told) → TracksFrame fr p f.frame f.page → TracksStatus st f.bits → EffectTracks st p f (effect_in fr st)
+effect_tracks : (fr : FlashFrame) (st : Option ℕ) (p : List ℕ) (f : Told) → TracksFrame fr p f.frame f.page → TracksStatus st f.bits → EffectTracks st p f (effect_in fr st)
 effect_tracks Idle st p f h k = tt
 effect_tracks Void st p f h k = tt
 effect_tracks (Selected fact) st p f h k = tt
-effect_tracks (Command op b fact) Lost p f h k = tt
-effect_tracks (Command op b fact) (Known s) p f h k =
-    subst (λ (z : ToldFrame). EffectTracks (Known s) p (record { frame = z; page = f.page; bits = f.bits; later = f.later }) (known_effect op b fact s)) (sym h.0)
+effect_tracks (Command op b fact) None p f h k = tt
+effect_tracks (Command op b fact) (Some s) p f h k =
+    subst (λ (z : ToldFrame). EffectTracks (Some s) p (record { frame = z; page = f.page; bits = f.bits; later = f.later }) (known_effect op b fact s)) (sym h.0)
     (known_tracks op b fact s p f.page f.bits f.later h.1 k)
 
 closed_tracks : (x : Flash) (e : Effect) (f : Told) → Tracks x f → EffectTracks x.status x.page f e → TracksStep f event.Deselect (closed_by x e)
@@ -359,13 +347,13 @@ closed_tracks x (Status s) f h k = record { in_frame = tt; in_status = k; in_cyc
 closed_tracks x (Start c) f h k = record { in_frame = tt; in_status = h.in_status; in_cycle_lem = k.0 }
 
 -- ---- `end`: the bits are those that were told for later
-end_status_lem : (c : FlashCycle) (st : FlashStatus) (bits later : ℕ) → CycleOk c → TracksStatus st bits → TracksCycle c bits later → running_of c ≡ true → TracksStatus (end_status c st) later
-end_status_lem c Lost bits later d k l r = tt
-end_status_lem cycle.None (Known s) bits later d k l r = absurd (true_not_false (sym r))
-end_status_lem (cycle.Program n) (Known s) bits later d k l r = kept_kept s ∙ k ∙ sym l
-end_status_lem (cycle.SectorErase n) (Known s) bits later d k l r = kept_kept s ∙ k ∙ sym l
-end_status_lem cycle.ChipErase (Known s) bits later d k l r = kept_kept s ∙ k ∙ sym l
-end_status_lem (cycle.WriteStatus b) (Known s) bits later d k l r = kept_all b d ∙ sym l
+end_status_lem : (c : Option FlashCycle) (st : Option ℕ) (bits later : ℕ) → CycleOk c → TracksStatus st bits → TracksCycle c bits later → running_of c ≡ true → TracksStatus (end_status c st) later
+end_status_lem c None bits later d k l r = tt
+end_status_lem None (Some s) bits later d k l r = absurd (true_not_false (sym r))
+end_status_lem (Some (cycle.Program n)) (Some s) bits later d k l r = kept_kept s ∙ k ∙ sym l
+end_status_lem (Some (cycle.SectorErase n)) (Some s) bits later d k l r = kept_kept s ∙ k ∙ sym l
+end_status_lem (Some cycle.ChipErase) (Some s) bits later d k l r = kept_kept s ∙ k ∙ sym l
+end_status_lem (Some (cycle.WriteStatus b)) (Some s) bits later d k l r = kept_all b d ∙ sym l
 
 waiting_page : (op : Op) (p q : List ℕ) → WaitsOp op → is_program op ≡ true → p ≡ q
 waiting_page WriteEnable p q h t = absurd h
@@ -385,22 +373,19 @@ waits_tracks Void p q r g h k = tt
 waits_tracks (Selected fact) p q r g h k = k
 waits_tracks (Command op s fact) p q r g h k = (k.0, waiting_page op q r h.0)
 
-ended_tracks : (c : FlashCycle) (fr : FlashFrame) (st : FlashStatus) (p : List ℕ) (f : Told) → Waits fr → CycleOk c → running_of c ≡ true
+ended_tracks : (c : Option FlashCycle) (fr : FlashFrame) (st : Option ℕ) (p : List ℕ) (f : Told) → Waits fr → CycleOk c → running_of c ≡ true
     → Tracks (record { frame = fr; cycle = c; status = st; page = p }) f
-    → Tracks (record { frame = fr; cycle = cycle.None; status = end_status c st; page = blank }) (told f event.End Ends)
+    → Tracks (record { frame = fr; cycle = None; status = end_status c st; page = blank }) (told f event.End Ends)
 ended_tracks c fr st p f w d r h = record {
   in_frame = waits_tracks fr p blank f.page f.frame w h.in_frame;
   in_status = end_status_lem c st f.bits f.later d h.in_status h.in_cycle_lem r;
   in_cycle_lem = tt;
 }
 
-end_tracks : (c : FlashCycle) (fr : FlashFrame) (st : FlashStatus) (p : List ℕ) (f : Told) → InCycle c (Waits fr) → CycleOk c
+end_tracks : (c : Option FlashCycle) (fr : FlashFrame) (st : Option ℕ) (p : List ℕ) (f : Told) → InCycle c (Waits fr) → CycleOk c
     → Tracks (record { frame = fr; cycle = c; status = st; page = p }) f → TracksStep f event.End (end_of (record { frame = fr; cycle = c; status = st; page = p }))
-end_tracks cycle.None fr st p f w d h = record { in_frame = h.in_frame; in_status = h.in_status; in_cycle_lem = tt }
-end_tracks (cycle.Program n) fr st p f w d h = ended_tracks (cycle.Program n) fr st p f w d refl h
-end_tracks (cycle.SectorErase n) fr st p f w d h = ended_tracks (cycle.SectorErase n) fr st p f w d refl h
-end_tracks cycle.ChipErase fr st p f w d h = ended_tracks cycle.ChipErase fr st p f w d refl h
-end_tracks (cycle.WriteStatus bits) fr st p f w d h = ended_tracks (cycle.WriteStatus bits) fr st p f w d refl h
+end_tracks None fr st p f w d h = record { in_frame = h.in_frame; in_status = h.in_status; in_cycle_lem = tt }
+end_tracks (Some c) fr st p f w d h = ended_tracks (Some c) fr st p f w d refl h
 
 powered_tracks : (x : Flash) (e : FlashEvent) (lock : Bool) (w : ℕ) (f : Told) → InCycle x.cycle (Waits x.frame) → CycleOk x.cycle → Tracks x f
     → TracksStep f e (powered_of x e lock w)
@@ -439,13 +424,13 @@ tracks_bus watched s f e g h =
     step_tracks s.chip e s.lines.supply s.lines.lock watched f g.waits g.in_cycle_lem (λ o. (g.dark o).1) h
 
 -- ---- channel L leaves what is told
-off_status_lem : (c : FlashCycle) (st : FlashStatus) (bits : ℕ) → TracksStatus st bits → TracksStatus (off_status c st) bits
-off_status_lem c Lost bits h = tt
-off_status_lem cycle.None (Known s) bits h = kept_kept s ∙ h
-off_status_lem (cycle.Program n) (Known s) bits h = kept_kept s ∙ h
-off_status_lem (cycle.SectorErase n) (Known s) bits h = kept_kept s ∙ h
-off_status_lem cycle.ChipErase (Known s) bits h = kept_kept s ∙ h
-off_status_lem (cycle.WriteStatus b) (Known s) bits h = tt
+off_status_lem : (c : Option FlashCycle) (st : Option ℕ) (bits : ℕ) → TracksStatus st bits → TracksStatus (off_status c st) bits
+off_status_lem c None bits h = tt
+off_status_lem None (Some s) bits h = kept_kept s ∙ h
+off_status_lem (Some (cycle.Program n)) (Some s) bits h = kept_kept s ∙ h
+off_status_lem (Some (cycle.SectorErase n)) (Some s) bits h = kept_kept s ∙ h
+off_status_lem (Some cycle.ChipErase) (Some s) bits h = kept_kept s ∙ h
+off_status_lem (Some (cycle.WriteStatus b)) (Some s) bits h = tt
 
 lock_tracks : (fr : FlashFrame) (p q : List ℕ) (g : ToldFrame) → TracksFrame fr p g q → TracksFrame (locked_frame fr) p g q
 lock_tracks Idle p q g h = tt
@@ -473,12 +458,12 @@ told_of Void = closed
 told_of (Selected fact) = opened
 told_of (Command op s fact) = command op s
 
-later_in : FlashCycle → ℕ → ℕ
-later_in cycle.None bits = bits
-later_in (cycle.Program n) bits = bits
-later_in (cycle.SectorErase n) bits = bits
-later_in cycle.ChipErase bits = bits
-later_in (cycle.WriteStatus b) bits = b
+later_in : Option FlashCycle → ℕ → ℕ
+later_in None bits = bits
+later_in (Some (cycle.Program n)) bits = bits
+later_in (Some (cycle.SectorErase n)) bits = bits
+later_in (Some cycle.ChipErase) bits = bits
+later_in (Some (cycle.WriteStatus b)) bits = b
 
 self_frame : (fr : FlashFrame) (p : List ℕ) → TracksFrame fr p (told_of fr) p
 unfolding told_of
@@ -487,17 +472,17 @@ self_frame Void p = tt
 self_frame (Selected fact) p = refl
 self_frame (Command op s fact) p = (refl, λ t. refl)
 
-self_status : (st : FlashStatus) → TracksStatus st (bits_of st)
-self_status Lost = tt
-self_status (Known s) = refl
+self_status : (st : Option ℕ) → TracksStatus st (bits_of st)
+self_status None = tt
+self_status (Some s) = refl
 
-self_cycle : (c : FlashCycle) (bits : ℕ) → TracksCycle c bits (later_in c bits)
+self_cycle : (c : Option FlashCycle) (bits : ℕ) → TracksCycle c bits (later_in c bits)
 unfolding later_in
-self_cycle cycle.None bits = tt
-self_cycle (cycle.Program n) bits = refl
-self_cycle (cycle.SectorErase n) bits = refl
-self_cycle cycle.ChipErase bits = refl
-self_cycle (cycle.WriteStatus b) bits = refl
+self_cycle None bits = tt
+self_cycle (Some (cycle.Program n)) bits = refl
+self_cycle (Some (cycle.SectorErase n)) bits = refl
+self_cycle (Some cycle.ChipErase) bits = refl
+self_cycle (Some (cycle.WriteStatus b)) bits = refl
 
 pub tells_itself : (x : Flash) → (f : Told) × Tracks x f
 tells_itself x = (
@@ -526,12 +511,9 @@ closed_started x Nothing f k = tt
 closed_started x (Status s) f k = tt
 closed_started x (Start c) f k = k.1
 
-end_started : (c : FlashCycle) (fr : FlashFrame) (st : FlashStatus) (p : List ℕ) (f : Told) → StartedStep f (end_of (record { frame = fr; cycle = c; status = st; page = p }))
-end_started cycle.None fr st p f = tt
-end_started (cycle.Program n) fr st p f = tt
-end_started (cycle.SectorErase n) fr st p f = tt
-end_started cycle.ChipErase fr st p f = tt
-end_started (cycle.WriteStatus bits) fr st p f = tt
+end_started : (c : Option FlashCycle) (fr : FlashFrame) (st : Option ℕ) (p : List ℕ) (f : Told) → StartedStep f (end_of (record { frame = fr; cycle = c; status = st; page = p }))
+end_started None fr st p f = tt
+end_started (Some c) fr st p f = tt
 
 powered_started : (x : Flash) (e : FlashEvent) (lock : Bool) (w : ℕ) (f : Told) → Tracks x f → StartedStep f (powered_of x e lock w)
 powered_started x event.Select lock w f h = tt
@@ -567,10 +549,10 @@ unfolding Telling
 tells_given k true b h = refl
 tells_given k false b h = h
 
-tells_status : (busy : Bool) (st : FlashStatus) → Telling (status_reply busy st) Silent
+tells_status : (busy : Bool) (st : Option ℕ) → Telling (status_reply busy st) Silent
 unfolding Telling
-tells_status busy Lost = tt
-tells_status busy (Known s) = refl
+tells_status busy None = tt
+tells_status busy (Some s) = refl
 
 tells_silent : (h : Skeleton) → Telling Silent h
 unfolding Telling
@@ -588,7 +570,7 @@ tells_none : (h : Skeleton) → Telling NoCycle h
 unfolding Telling
 tells_none h = tt
 
-tells_op : (op : Op) (s : Sent) (busy : Bool) (st : FlashStatus) (w : ℕ) → Telling (reply_to op s busy st w) (hint_by w op s)
+tells_op : (op : Op) (s : Sent) (busy : Bool) (st : Option ℕ) (w : ℕ) → Telling (reply_to op s busy st w) (hint_by w op s)
 tells_op WriteEnable s busy st w = tells_silent Silent
 tells_op WriteDisable s busy st w = tells_silent Silent
 tells_op ReadStatus s busy st w = tells_status busy st
@@ -620,7 +602,7 @@ powered_tells x event.Select lock w f h = tells_silent Silent
 powered_tells x (event.Byte si so) lock w f h = tells_byte x.frame x f.frame x.page f.page si w h.in_frame
 powered_tells x event.Cut lock w f h = tells_silent Silent
 powered_tells x event.Deselect lock w f h = tells_closed x (effect_in x.frame x.status) Silent
-powered_tells x event.End lock w f h = tells_end (running_of x.cycle) (bare x.frame cycle.None (end_status x.cycle x.status) x.page) x Silent
+powered_tells x event.End lock w f h = tells_end (running_of x.cycle) (bare x.frame None (end_status x.cycle x.status) x.page) x Silent
 
 dark_tells : (x : Flash) (e : FlashEvent) (w : ℕ) (f : Told) → Telling (dark_of x e).reply (hint_of w f e)
 dark_tells x event.Select w f = tells_silent Silent

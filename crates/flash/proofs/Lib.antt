@@ -5,3 +5,4 @@ pub mod Written
 pub mod Laws
 pub mod Lost
 pub mod Within
+pub mod Compared

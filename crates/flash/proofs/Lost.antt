@@ -3,6 +3,7 @@ use mathlib.Core.Path.{◌≡◌, refl, sym, ap, ◌∙◌}
 use mathlib.Core.Bool.{Bool, true, false}
 use Prim.Native.Nat.{ℕ, ◌/◌, ◌%◌}
 use lib.Dec.{eqb, leb}
+use Rattle.std.specs.Prelude.{Option, Some, None}
 use Rattle.law.specs.Choice.{of_both}
 use Rattle.record.specs.declared.Lines.{Lines}
 use Rattle.record.specs.declared.FlashEvent.{FlashEvent}
@@ -13,8 +14,6 @@ use Rattle.flash.specs.declared.FlashFrame.{FlashFrame}
 use Rattle.flash.specs.declared.FlashFrame.TheVariants.{Idle, Void, Selected, Command}
 use Rattle.flash.specs.declared.FlashCycle.{FlashCycle}
 use Rattle.flash.specs.declared.FlashCycle.TheVariants as cycle
-use Rattle.flash.specs.declared.FlashStatus.{FlashStatus}
-use Rattle.flash.specs.declared.FlashStatus.TheVariants as status
 use Rattle.flash.specs.declared.LockFact.{LockFact}
 use Rattle.flash.specs.declared.Sent.{Sent}
 use Rattle.flash.specs.declared.Op.{Op}
@@ -23,15 +22,15 @@ use Rattle.flash.specs.Cycle.{running_of, end_status, may_start, lock_bars, star
 use Rattle.flash.specs.Code.{kept_bits, with_enable, sector_of, sector_locked}
 use Rattle.flash.specs.Step as rules
 
-end_keeps : (y : FlashCycle) (s : FlashStatus) → rules.is_lost (end_status y s) ≡ rules.is_lost s
-end_keeps y status.Lost = refl
-end_keeps cycle.None (status.Known s) = refl
-end_keeps (cycle.Program n) (status.Known s) = refl
-end_keeps (cycle.SectorErase n) (status.Known s) = refl
-end_keeps cycle.ChipErase (status.Known s) = refl
-end_keeps (cycle.WriteStatus n) (status.Known s) = refl
+end_keeps : (y : Option FlashCycle) (s : Option ℕ) → rules.is_lost (end_status y s) ≡ rules.is_lost s
+end_keeps y None = refl
+end_keeps None (Some s) = refl
+end_keeps (Some (cycle.Program n)) (Some s) = refl
+end_keeps (Some (cycle.SectorErase n)) (Some s) = refl
+end_keeps (Some cycle.ChipErase) (Some s) = refl
+end_keeps (Some (cycle.WriteStatus n)) (Some s) = refl
 
-lost_closed : (f : Flash) (r : FlashFrame) → rules.lost_of (rules.closed_by f (rules.effect_in r status.Lost)).chip ≡ rules.lost_of f
+lost_closed : (f : Flash) (r : FlashFrame) → rules.lost_of (rules.closed_by f (rules.effect_in r None)).chip ≡ rules.lost_of f
 lost_closed f Idle = refl
 lost_closed f Void = refl
 lost_closed f (Selected fact) = refl
@@ -57,15 +56,15 @@ module _ (f : Flash) (k : rules.lost_of f ≡ false) where
   known_does op.ChipErase sent fact s = starts (may_start (eqb sent.count 1) s (sector_locked s 1)) cycle.ChipErase
   known_does op.Identify sent fact s = k
 
-  known_closed : (r : FlashFrame) (s : ℕ) → rules.lost_of (rules.closed_by f (rules.effect_in r (status.Known s))).chip ≡ false
+  known_closed : (r : FlashFrame) (s : ℕ) → rules.lost_of (rules.closed_by f (rules.effect_in r (Some s))).chip ≡ false
   known_closed Idle s = k
   known_closed Void s = k
   known_closed (Selected fact) s = k
   known_closed (Command o sent fact) s = known_does o sent fact s
 
-closed_keeps : (f : Flash) (s : FlashStatus) → f.status ≡ s → rules.lost_of (rules.closed_by f (rules.effect_in f.frame s)).chip ≡ rules.lost_of f
-closed_keeps f status.Lost e = lost_closed f f.frame
-closed_keeps f (status.Known s) e = known_closed f (ap rules.is_lost e) f.frame s ∙ sym (ap rules.is_lost e)
+closed_keeps : (f : Flash) (s : Option ℕ) → f.status ≡ s → rules.lost_of (rules.closed_by f (rules.effect_in f.frame s)).chip ≡ rules.lost_of f
+closed_keeps f None e = lost_closed f f.frame
+closed_keeps f (Some s) e = known_closed f (ap rules.is_lost e) f.frame s ∙ sym (ap rules.is_lost e)
 
 byte_keeps : (r : FlashFrame) (f : Flash) (si w : ℕ) → rules.lost_of (rules.byte_in r f si w).chip ≡ rules.lost_of f
 byte_keeps Idle f si w = refl

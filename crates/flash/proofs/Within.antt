@@ -6,6 +6,7 @@ use native.Mathlib.Nat.{mod-lt}
 use native.Mathlib.Omega.{arith}
 use lib.Dec.{ltb, eqb}
 use lib.ListN.{get_or, set, replicate}
+use Rattle.std.specs.Prelude.{Option, Some, None}
 use Rattle.law.specs.Words.{All, pick}
 use Rattle.law.specs.Choice.{of_both}
 use Rattle.law.specs.Lists.{all_at}
@@ -28,8 +29,6 @@ use Rattle.flash.specs.declared.Flash.{Flash}
 use Rattle.flash.specs.declared.FlashStep.{FlashStep}
 use Rattle.flash.specs.declared.Effect.{Effect}
 use Rattle.flash.specs.declared.Effect.TheVariants.{Nothing, Status, Start}
-use Rattle.flash.specs.declared.FlashStatus.{FlashStatus}
-use Rattle.flash.specs.declared.FlashStatus.TheVariants.{Lost, Known}
 use Rattle.flash.specs.Code.{sector_of}
 use Rattle.flash.specs.Cycle.{blank, page_in, running_of}
 use Rattle.flash.specs.Frame.{fetch_of, identity_of, status_reply, reply_to, page_after}
@@ -64,12 +63,12 @@ bytes_all (suc n) d l = (l, bytes_all n d l)
 pub bytes_blank : BytePage blank
 bytes_blank = bytes_all flash_page 0xff (omega arith)
 
-bytes_in : (c : FlashCycle) (page : List ℕ) → BytePage page → BytePage (page_in c page)
-bytes_in flash-cycle.None page h = bytes_blank
-bytes_in (flash-cycle.Program n) page h = h
-bytes_in (flash-cycle.SectorErase n) page h = bytes_blank
-bytes_in flash-cycle.ChipErase page h = bytes_blank
-bytes_in (flash-cycle.WriteStatus bits) page h = bytes_blank
+bytes_in : (c : Option FlashCycle) (page : List ℕ) → BytePage page → BytePage (page_in c page)
+bytes_in None page h = bytes_blank
+bytes_in (Some (flash-cycle.Program n)) page h = h
+bytes_in (Some (flash-cycle.SectorErase n)) page h = bytes_blank
+bytes_in (Some flash-cycle.ChipErase) page h = bytes_blank
+bytes_in (Some (flash-cycle.WriteStatus bits)) page h = bytes_blank
 
 bytes_after : (o : Op) (s : Sent) (si : ℕ) (page : List ℕ) → si < 256 → BytePage page → BytePage (page_after o s si page)
 bytes_after op.WriteEnable s si page l h = h
@@ -92,7 +91,7 @@ bytes_byte (Command o s fact) f si w l h = bytes_after o s si f.page l h
 bytes_closed : (f : Flash) (e : Effect) → BytePage f.page → BytePage (closed_by f e).chip.page
 bytes_closed f Nothing h = bytes_in f.cycle f.page h
 bytes_closed f (Status s) h = bytes_in f.cycle f.page h
-bytes_closed f (Start c) h = bytes_in c f.page h
+bytes_closed f (Start c) h = bytes_in (Some c) f.page h
 
 bytes_powered : (f : Flash) (e : FlashEvent) (lock : Bool) (w : ℕ) → Sends e → BytePage f.page → BytePage (powered_of f e lock w).chip.page
 bytes_powered f Select lock w k h = bytes_in f.cycle f.page h
@@ -133,15 +132,15 @@ fetches_read s w =
     of_both (Fetches flash_sector) (ltb s.count 4) Silent (pick (eqb (sector_of s.place) w) (Fetch (s.place % flash_sector)) Silent) tt
     (of_both (Fetches flash_sector) (eqb (sector_of s.place) w) (Fetch (s.place % flash_sector)) Silent (mod-lt s.place (omega arith)) tt)
 
-fetches_status : (busy : Bool) (s : FlashStatus) → Fetches flash_sector (status_reply busy s)
-fetches_status busy Lost = tt
-fetches_status busy (Known s) = tt
+fetches_status : (busy : Bool) (s : Option ℕ) → Fetches flash_sector (status_reply busy s)
+fetches_status busy None = tt
+fetches_status busy (Some s) = tt
 
 fetches_identity : (n : ℕ) → Fetches flash_sector (identity_of n)
 fetches_identity n =
     of_both (Fetches flash_sector) (eqb n 1) (Given 0x1f) (pick (eqb n 2) (Given 0x60) Silent) tt (of_both (Fetches flash_sector) (eqb n 2) (Given 0x60) Silent tt tt)
 
-fetches_reply : (o : Op) (s : Sent) (busy : Bool) (status : FlashStatus) (w : ℕ) → Fetches flash_sector (reply_to o s busy status w)
+fetches_reply : (o : Op) (s : Sent) (busy : Bool) (status : Option ℕ) (w : ℕ) → Fetches flash_sector (reply_to o s busy status w)
 fetches_reply op.WriteEnable s busy status w = tt
 fetches_reply op.WriteDisable s busy status w = tt
 fetches_reply op.ReadStatus s busy status w = fetches_status busy status

@@ -7,6 +7,7 @@ use mathlib.Core.Logic.{◌≢◌}
 use mathlib.Core.Path.{◌≡◌, refl, sym, ap, ap₂, ◌∙◌}
 use mathlib.Core.List.{List, [], ◌∷◌, ◌++◌}
 use lib.ListN.{length, get_or, set, length-replicate}
+use Rattle.std.specs.Prelude.{Option, Some, None}
 use Rattle.law.specs.Choice.{true_not_false}
 use Rattle.law.specs.Words.{pick}
 use Rattle.page.specs.Geometry.{flash_page, flash_size}
@@ -23,15 +24,13 @@ use Rattle.flash.specs.Frame.{fact_at, op_code_sent, opened_by, with_byte, next_
 use Rattle.flash.specs.Cycle.{blank, starts_if}
 use Rattle.flash.specs.Step.{closed_by, step_of}
 use Rattle.flash.specs.Side.{Side, side_bus, side_line}
+use Rattle.flash.specs.declared.Op.{Op}
 use Rattle.flash.specs.declared.Op.TheVariants as op
-use Rattle.flash.specs.declared.Decoded.{Decoded}
-use Rattle.flash.specs.declared.Decoded.TheVariants.{Is}
 use Rattle.flash.specs.declared.LockFact.{LockFact}
 use Rattle.flash.specs.declared.Sent.{Sent}
 use Rattle.flash.specs.declared.FlashFrame.{FlashFrame}
 use Rattle.flash.specs.declared.FlashFrame.TheVariants.{Idle, Selected, Command}
 use Rattle.flash.specs.declared.FlashCycle.TheVariants as cycle
-use Rattle.flash.specs.declared.FlashStatus.TheVariants.{Known}
 use Rattle.flash.specs.declared.Flash.{Flash}
 use Rattle.flash.specs.declared.FlashStep.{FlashStep}
 
@@ -63,7 +62,7 @@ pub data Sends : List Record → List ℕ → Type 0 where
 -- the flash with the supply on, no cycle, and the status known
 abbrev pub awake : FlashFrame → ℕ → List ℕ → Bool → Side
 awake frame status page lock = record {
-  chip = record { frame = frame; cycle = cycle.None; status = Known status; page = page };
+  chip = record { frame = frame; cycle = None; status = Some status; page = page };
   lines = record { supply = true; lock = lock };
 }
 
@@ -104,12 +103,12 @@ module _ (watched status : ℕ) where
       (v.0, v.1, ap (side_after watched rs) w.2 ∙ v.2)
 
   -- the op-code is the first byte
-  sends_first : {rs : List Record} {ds : List ℕ} (b : ℕ) → decode_of b ≡ Is op.Program → Sends rs (b ∷ ds) → (fact : LockFact) (lock : Bool)
+  sends_first : {rs : List Record} {ds : List ℕ} (b : ℕ) → decode_of b ≡ Some op.Program → Sends rs (b ∷ ds) → (fact : LockFact) (lock : Bool)
       → Reaches (side_after watched rs (awake (Selected fact) status blank lock)) (Command op.Program (sent_all op_code_sent ds)) status (page_all op_code_sent ds blank)
   unfolding side_after
   sends_first b h (byte stamp si so {rs = rs} k) fact lock =
       let v = sends_on k op_code_sent blank fact lock in
-      (v.0, v.1, ap (λ (d : Decoded). side_after watched rs (awake (opened_by false d fact) status blank lock)) h ∙ v.2)
+      (v.0, v.1, ap (λ (d : Option Op). side_after watched rs (awake (opened_by false d fact) status blank lock)) h ∙ v.2)
   sends_first b h (other r {rs = rs} t k) fact lock =
       let w = beside_keeps Selected (λ f. refl) blank fact lock r.event t in
       let v = sends_first b h k w.0 w.1 in
@@ -153,7 +152,7 @@ same_sector p a e = omega arith
 -- the chip that writes these data bytes from address a on, and the `des` that started it
 abbrev pub programming : ℕ → ℕ → List ℕ → Flash
 programming status a ds =
-    record { frame = Idle; cycle = cycle.Program (a / flash_page); status = Known status; page = roll flash_page (a % flash_page) ds blank }
+    record { frame = Idle; cycle = Some (cycle.Program (a / flash_page)); status = Some status; page = roll flash_page (a % flash_page) ds blank }
 
 abbrev pub starting : Flash → FlashStep
 starting f = record { chip = f; reply = Starts }
@@ -164,12 +163,12 @@ deselected watched x = step_of x.chip Deselect x.lines watched
 
 -- `des` after five bytes or more, with write enable on and the sector not locked
 des_starts : (watched status p : ℕ) (fact : LockFact) (page : List ℕ) (lock : Bool) → enabled status ≡ true → sector_locked status (sector_of p) ≡ false
-    → deselected watched (awake (Command op.Program (sent_to 5 p) fact) status page lock) ≡ starting (record { frame = Idle; cycle = cycle.Program (p / flash_page); status = Known status; page = page })
+    → deselected watched (awake (Command op.Program (sent_to 5 p) fact) status page lock) ≡ starting (record { frame = Idle; cycle = Some (cycle.Program (p / flash_page)); status = Some status; page = page })
 des_starts watched status p fact page lock e g =
     let f : Flash = (awake (Command op.Program (sent_to 5 p) fact) status page lock).chip in
     ap₂ (λ (barred may : Bool). closed_by f (starts_if (pick barred false may) (cycle.Program (p / flash_page)))) g e
 
-module _ (watched status : ℕ) (enable : enabled status ≡ true) (code high middle low : ℕ) (program : decode_of code ≡ Is op.Program)
+module _ (watched status : ℕ) (enable : enabled status ≡ true) (code high middle low : ℕ) (program : decode_of code ≡ Some op.Program)
     (free : sector_locked status (sector_of (address_of high middle low)) ≡ false) where
   abbrev a : ℕ
   a = address_of high middle low
@@ -193,14 +192,14 @@ module _ (watched status : ℕ) (enable : enabled status ≡ true) (code high mi
       → deselected watched (side_after watched rs (side_bus watched (awake frame status page lock) Select)) ≡ starting (programming status a ds)
   written [] k l frame page lock = absurd (omega arith)
   written (d ∷ ds) k l frame page lock =
-      let v = sends_first watched status code program k (fact_at false (Known status) lock) lock in
+      let v = sends_first watched status code program k (fact_at false (Some status) lock) lock in
       let p : ℕ = place_after flash_page a (suc (length ds)) in
       let same : p / flash_page ≡ a / flash_page = after_page flash_page (omega arith) a (suc (length ds)) in
       let free' : sector_locked status (sector_of p) ≡ false = ap (sector_locked status) (same_sector p a same) ∙ free in
       ap (deselected watched)
       (v.2 ∙ ap₂ (λ (s : Sent) (w : List ℕ). awake (Command op.Program s v.0) status w v.1) (all_sent d ds) (all_put d ds))
       ∙ des_starts watched status p v.0 (roll flash_page (a % flash_page) (d ∷ ds) blank) v.1 enable free'
-      ∙ ap (λ (n : ℕ). starting (record { frame = Idle; cycle = cycle.Program n; status = Known status; page = roll flash_page (a % flash_page) (d ∷ ds) blank })) same
+      ∙ ap (λ (n : ℕ). starting (record { frame = Idle; cycle = Some (cycle.Program n); status = Some status; page = roll flash_page (a % flash_page) (d ∷ ds) blank })) same
 
 -- ---- 'a later byte for a place replaces the earlier': byte d stands where it went, if none of the later ones goes there
 pub later_stays : (status a : ℕ) (before : List ℕ) (d : ℕ) (later : List ℕ) → ((k : ℕ) → k < length later → place flash_page (a % flash_page) (length before + suc k) ≢ place flash_page (a % flash_page) (length before))

@@ -1,27 +1,26 @@
 -- Believed: Op-codes, sectors, the lock-out table and the status bits (document 01, 'Flash rules').
-use Rattle.std.specs.Prelude.{ℕ, ◌+◌, ◌*◌, ◌/◌, ◌%◌, Bool, true, false, leb, eqb}
+use Rattle.std.specs.Prelude.{ℕ, ◌+◌, ◌*◌, ◌/◌, ◌%◌, Bool, true, false, leb, eqb, Option, Some, None}
 use Rattle.law.specs.Words.{pick}
 use Rattle.page.specs.Geometry.{flash_sector, flash_sectors}
+use Rattle.flash.specs.declared.Op.{Op}
 use Rattle.flash.specs.declared.Op.TheVariants.{WriteEnable, WriteDisable, ReadStatus, WriteStatus, Read, Program, SectorErase, ChipErase, Identify}
-use Rattle.flash.specs.declared.Decoded.{Decoded}
-use Rattle.flash.specs.declared.Decoded.TheVariants.{Is, Unknown}
 
 -- the nine op-codes, with 0 for x
-abbrev pub instruction : ℕ → Decoded
+abbrev pub instruction : ℕ → Option Op
 instruction n =
-    pick (eqb n 0b00000110) (Is WriteEnable)
-    (pick (eqb n 0b00000100) (Is WriteDisable)
-    (pick (eqb n 0b00000101) (Is ReadStatus)
-    (pick (eqb n 0b00000001) (Is WriteStatus)
-    (pick (eqb n 0b00000011) (Is Read)
-    (pick (eqb n 0b00000010) (Is Program)
-    (pick (eqb n 0b01010010) (Is SectorErase)
-    (pick (eqb n 0b01100010) (Is ChipErase)
-    (pick (eqb n 0b00010101) (Is Identify)
-    Unknown))))))))
+    pick (eqb n 0b00000110) (Some WriteEnable)
+    (pick (eqb n 0b00000100) (Some WriteDisable)
+    (pick (eqb n 0b00000101) (Some ReadStatus)
+    (pick (eqb n 0b00000001) (Some WriteStatus)
+    (pick (eqb n 0b00000011) (Some Read)
+    (pick (eqb n 0b00000010) (Some Program)
+    (pick (eqb n 0b01010010) (Some SectorErase)
+    (pick (eqb n 0b01100010) (Some ChipErase)
+    (pick (eqb n 0b00010101) (Some Identify)
+    None))))))))
 
 -- x, bit 3 of an op-code, is don't care
-abbrev pub decode_of : ℕ → Decoded
+abbrev pub decode_of : ℕ → Option Op
 decode_of b = instruction (b / 16 * 16 + b % 8)
 
 -- sectors: 1 from 00000, 2 from 08000, 3 from 10000, 4 from 18000; A23 to A17 are ignored

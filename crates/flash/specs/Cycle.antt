@@ -1,5 +1,6 @@
 -- Believed: A cycle: what starts one at `des`, and what its end and a supply that goes off leave (document 01, 'Flash rules', 'Supply').
-use Rattle.std.specs.Prelude.{ℕ, ◌/◌, ◌%◌, Bool, true, false, List, replicate, leb, eqb}
+-- The chip's cycle is none where none runs, and its status is none once it is lost.
+use Rattle.std.specs.Prelude.{ℕ, ◌/◌, ◌%◌, Bool, false, List, replicate, leb, eqb, Option, Some, None, is_some}
 use Rattle.law.specs.Words.{pick}
 use Rattle.page.specs.Geometry.{flash_page}
 use Rattle.flash.specs.Code.{sector_of, sector_locked, wpen, enabled, kept_bits, with_enable}
@@ -9,30 +10,25 @@ use Rattle.flash.specs.declared.LockFact.{LockFact}
 use Rattle.flash.specs.declared.LockFact.TheVariants.{Absent, Free, Locked}
 use Rattle.flash.specs.declared.Sent.{Sent}
 use Rattle.flash.specs.declared.FlashCycle.{FlashCycle}
-use Rattle.flash.specs.declared.FlashCycle.TheVariants.{None, Program, SectorErase, ChipErase, WriteStatus}
-use Rattle.flash.specs.declared.FlashStatus.{FlashStatus}
-use Rattle.flash.specs.declared.FlashStatus.TheVariants.{Lost, Known}
+use Rattle.flash.specs.declared.FlashCycle.TheVariants.{Program, SectorErase, ChipErase, WriteStatus}
 use Rattle.flash.specs.declared.Effect.{Effect}
 use Rattle.flash.specs.declared.Effect.TheVariants.{Nothing, Status, Start}
 
-abbrev pub running_of : FlashCycle → Bool
-running_of None = false
-running_of (Program n) = true
-running_of (SectorErase n) = true
-running_of ChipErase = true
-running_of (WriteStatus bits) = true
+-- does a cycle run?
+abbrev pub running_of : Option FlashCycle → Bool
+running_of cycle = is_some cycle
 
 -- a page to which nothing was sent: ff changes nothing at `end` and at `off`
 abbrev pub blank : List ℕ
 blank = replicate flash_page 0xff
 
 -- where no frame has data, only a PROGRAM cycle keeps a page
-abbrev pub page_in : FlashCycle → List ℕ → List ℕ
+abbrev pub page_in : Option FlashCycle → List ℕ → List ℕ
 page_in None page = blank
-page_in (Program n) page = page
-page_in (SectorErase n) page = blank
-page_in ChipErase page = blank
-page_in (WriteStatus bits) page = blank
+page_in (Some (Program n)) page = page
+page_in (Some (SectorErase n)) page = blank
+page_in (Some ChipErase) page = blank
+page_in (Some (WriteStatus bits)) page = blank
 
 -- writing instructions act at exact length; all but WREN and WRDI need write enable, and start nothing where they are barred
 abbrev pub may_start : Bool → ℕ → Bool → Bool
@@ -68,24 +64,24 @@ known_effect op.ChipErase sent fact s = starts_if (may_start (eqb sent.count 1) 
 known_effect op.Identify sent fact s = Nothing
 
 -- 'Supply': with a lost status nothing starts a cycle
-abbrev pub effect_of : Op → Sent → LockFact → FlashStatus → Effect
-effect_of op sent fact Lost = Nothing
-effect_of op sent fact (Known s) = known_effect op sent fact s
+abbrev pub effect_of : Op → Sent → LockFact → Option ℕ → Effect
+effect_of op sent fact None = Nothing
+effect_of op sent fact (Some s) = known_effect op sent fact s
 
 -- at `end` WRSR sets bits 7, 3, 2, and write enable goes off
-abbrev pub end_status : FlashCycle → FlashStatus → FlashStatus
-end_status cycle Lost = Lost
-end_status None (Known s) = Known s
-end_status (Program n) (Known s) = Known (kept_bits s)
-end_status (SectorErase n) (Known s) = Known (kept_bits s)
-end_status ChipErase (Known s) = Known (kept_bits s)
-end_status (WriteStatus bits) (Known s) = Known bits
+abbrev pub end_status : Option FlashCycle → Option ℕ → Option ℕ
+end_status cycle None = None
+end_status None (Some s) = Some s
+end_status (Some (Program n)) (Some s) = Some (kept_bits s)
+end_status (Some (SectorErase n)) (Some s) = Some (kept_bits s)
+end_status (Some ChipErase) (Some s) = Some (kept_bits s)
+end_status (Some (WriteStatus bits)) (Some s) = Some bits
 
 -- 'Supply': in a WRSR cycle the status is lost; write enable is off; a lost status stays lost
-abbrev pub off_status : FlashCycle → FlashStatus → FlashStatus
-off_status cycle Lost = Lost
-off_status None (Known s) = Known (kept_bits s)
-off_status (Program n) (Known s) = Known (kept_bits s)
-off_status (SectorErase n) (Known s) = Known (kept_bits s)
-off_status ChipErase (Known s) = Known (kept_bits s)
-off_status (WriteStatus bits) (Known s) = Lost
+abbrev pub off_status : Option FlashCycle → Option ℕ → Option ℕ
+off_status cycle None = None
+off_status None (Some s) = Some (kept_bits s)
+off_status (Some (Program n)) (Some s) = Some (kept_bits s)
+off_status (Some (SectorErase n)) (Some s) = Some (kept_bits s)
+off_status (Some ChipErase) (Some s) = Some (kept_bits s)
+off_status (Some (WriteStatus bits)) (Some s) = None

@@ -1,5 +1,5 @@
 -- Believed: A frame, from `sel` to `des`: its bytes and the replies to them (document 01, 'Flash rules').
-use Rattle.std.specs.Prelude.{ℕ, ◌+◌, ◌-◌, ◌*◌, ◌/◌, ◌%◌, Bool, true, not, List, set, ltb, eqb}
+use Rattle.std.specs.Prelude.{ℕ, ◌+◌, ◌-◌, ◌*◌, ◌/◌, ◌%◌, Bool, true, not, List, set, ltb, eqb, Option, Some, None}
 use Rattle.law.specs.Words.{pick}
 use Rattle.page.specs.Geometry.{flash_page, flash_sector, flash_size}
 use Rattle.page.specs.Rolling.{rolled_in, next_in}
@@ -8,22 +8,18 @@ use Rattle.record.specs.declared.Skeleton.TheVariants.{Silent, Given, Fetch}
 use Rattle.flash.specs.Code.{decode_of, sector_of, wpen}
 use Rattle.flash.specs.declared.Op.{Op}
 use Rattle.flash.specs.declared.Op.TheVariants.{WriteEnable, WriteDisable, ReadStatus, WriteStatus, Read, Program, SectorErase, ChipErase, Identify}
-use Rattle.flash.specs.declared.Decoded.{Decoded}
-use Rattle.flash.specs.declared.Decoded.TheVariants.{Is, Unknown}
 use Rattle.flash.specs.declared.LockFact.{LockFact}
 use Rattle.flash.specs.declared.LockFact.TheVariants.{Absent, Free, Locked}
 use Rattle.flash.specs.declared.Sent.{Sent}
 use Rattle.flash.specs.declared.FlashFrame.{FlashFrame}
 use Rattle.flash.specs.declared.FlashFrame.TheVariants.{Idle, Void, Selected, Command}
-use Rattle.flash.specs.declared.FlashStatus.{FlashStatus}
-use Rattle.flash.specs.declared.FlashStatus.TheVariants.{Lost, Known}
 
 -- the lock since `sel` is a fact only in a frame whose `sel` found WPEN 1 and no cycle; it starts as the lock's level
-abbrev pub fact_by : FlashStatus → Bool → LockFact
-fact_by Lost lock = Absent
-fact_by (Known s) lock = pick (wpen s) (pick lock Locked Free) Absent
+abbrev pub fact_by : Option ℕ → Bool → LockFact
+fact_by None lock = Absent
+fact_by (Some s) lock = pick (wpen s) (pick lock Locked Free) Absent
 
-abbrev pub fact_at : Bool → FlashStatus → Bool → LockFact
+abbrev pub fact_at : Bool → Option ℕ → Bool → LockFact
 fact_at busy status lock = pick busy Absent (fact_by status lock)
 
 -- in a cycle only RDSR is served, judged when the first byte is complete
@@ -43,9 +39,9 @@ abbrev pub op_code_sent : Sent
 op_code_sent = record { count = 1; place = 0 }
 
 -- any other op-code makes the frame void, and a frame that is refused in a cycle is void
-abbrev pub opened_by : Bool → Decoded → LockFact → FlashFrame
-opened_by busy (Is op) fact = pick (served busy op) (Command op op_code_sent fact) Void
-opened_by busy Unknown fact = Void
+abbrev pub opened_by : Bool → Option Op → LockFact → FlashFrame
+opened_by busy (Some op) fact = pick (served busy op) (Command op op_code_sent fact) Void
+opened_by busy None fact = Void
 
 abbrev pub opened_as : Bool → ℕ → LockFact → FlashFrame
 opened_as busy si fact = opened_by busy (decode_of si) fact
@@ -91,11 +87,11 @@ abbrev pub identity_of : ℕ → Skeleton
 identity_of count = pick (eqb count 1) (Given 0x1f) (pick (eqb count 2) (Given 0x60) Silent)
 
 -- RDSR: the status, in a cycle ff, each byte worked out afresh; a lost status is silent
-abbrev pub status_reply : Bool → FlashStatus → Skeleton
-status_reply busy Lost = Silent
-status_reply busy (Known s) = Given (pick busy 0xff s)
+abbrev pub status_reply : Bool → Option ℕ → Skeleton
+status_reply busy None = Silent
+status_reply busy (Some s) = Given (pick busy 0xff s)
 
-abbrev pub reply_to : Op → Sent → Bool → FlashStatus → ℕ → Skeleton
+abbrev pub reply_to : Op → Sent → Bool → Option ℕ → ℕ → Skeleton
 reply_to WriteEnable sent busy status watched = Silent
 reply_to WriteDisable sent busy status watched = Silent
 reply_to ReadStatus sent busy status watched = status_reply busy status

@@ -1,5 +1,5 @@
 -- What holds of every state of the flash's side that is reached (proofs/Bounds shows that it does).
-use Rattle.std.specs.Prelude.{ℕ, ◌/◌, ◌%◌, ◌<◌, ◌≤◌, Bool, true, false, ◌≡◌, List, length}
+use Rattle.std.specs.Prelude.{ℕ, ◌/◌, ◌%◌, ◌<◌, ◌≤◌, Bool, true, false, ◌≡◌, List, length, Option, Some, None}
 use Rattle.law.specs.Words.{pick}
 use Rattle.page.specs.Geometry.{flash_page, flash_sectors, flash_size}
 use Rattle.record.specs.Status.{StatusOk}
@@ -15,8 +15,6 @@ use Rattle.flash.specs.declared.FlashFrame.{FlashFrame}
 use Rattle.flash.specs.declared.FlashFrame.TheVariants.{Idle, Void, Selected, Command}
 use Rattle.flash.specs.declared.FlashCycle.{FlashCycle}
 use Rattle.flash.specs.declared.FlashCycle.TheVariants as cycle
-use Rattle.flash.specs.declared.FlashStatus.{FlashStatus}
-use Rattle.flash.specs.declared.FlashStatus.TheVariants.{Lost, Known}
 
 -- an instruction has 1 to 5 bytes (5 stands for five or more) and a place of 17 bits
 pub record SentOk (s : Sent) : Type 0 where
@@ -36,17 +34,17 @@ pub record StatusBits (s : ℕ) : Type 0 where
   pub middle : s / 16 % 8 ≡ 0
   pub low : s % 2 ≡ 0
 
-abbrev pub FlashStatusOk : FlashStatus → Type 0
-FlashStatusOk Lost = Unit {0}
-FlashStatusOk (Known s) = StatusBits s
+abbrev pub FlashStatusOk : Option ℕ → Type 0
+FlashStatusOk None = Unit {0}
+FlashStatusOk (Some s) = StatusBits s
 
 -- a PROGRAM is for one of 512 pages, an erase for one of four sectors; a WRSR sets bits 7, 3, 2 alone
-abbrev pub CycleOk : FlashCycle → Type 0
-CycleOk cycle.None = Unit {0}
-CycleOk (cycle.Program n) = n < flash_size / flash_page
-CycleOk (cycle.SectorErase n) = (1 ≤ n) × (n ≤ flash_sectors)
-CycleOk cycle.ChipErase = Unit {0}
-CycleOk (cycle.WriteStatus bits) = StatusOk bits
+abbrev pub CycleOk : Option FlashCycle → Type 0
+CycleOk None = Unit {0}
+CycleOk (Some (cycle.Program n)) = n < flash_size / flash_page
+CycleOk (Some (cycle.SectorErase n)) = (1 ≤ n) × (n ≤ flash_sectors)
+CycleOk (Some cycle.ChipErase) = Unit {0}
+CycleOk (Some (cycle.WriteStatus bits)) = StatusOk bits
 
 -- in a cycle only RDSR is served, and no open frame has the lock fact
 abbrev pub WaitsOp : Op → Type 0
@@ -67,16 +65,13 @@ Waits (Selected fact) = fact ≡ Absent
 Waits (Command op sent fact) = WaitsOp op × (fact ≡ Absent)
 
 -- in a cycle the status is known
-abbrev pub IsKnown : FlashStatus → Type 0
-IsKnown Lost = ⊥
-IsKnown (Known s) = Unit {0}
+abbrev pub IsKnown : Option ℕ → Type 0
+IsKnown None = ⊥
+IsKnown (Some s) = Unit {0}
 
-abbrev pub InCycle : FlashCycle → Type 0 → Type 0
-InCycle cycle.None P = Unit {0}
-InCycle (cycle.Program n) P = P
-InCycle (cycle.SectorErase n) P = P
-InCycle cycle.ChipErase P = P
-InCycle (cycle.WriteStatus bits) P = P
+abbrev pub InCycle : Option FlashCycle → Type 0 → Type 0
+InCycle None P = Unit {0}
+InCycle (Some c) P = P
 
 -- the page is a PROGRAM frame's or a PROGRAM cycle's, else blank
 abbrev pub is_program : Op → Bool
@@ -96,12 +91,12 @@ sends_page Void = false
 sends_page (Selected fact) = false
 sends_page (Command op sent fact) = is_program op
 
-abbrev pub writes_page : FlashCycle → Bool
-writes_page cycle.None = false
-writes_page (cycle.Program n) = true
-writes_page (cycle.SectorErase n) = false
-writes_page cycle.ChipErase = false
-writes_page (cycle.WriteStatus bits) = false
+abbrev pub writes_page : Option FlashCycle → Bool
+writes_page None = false
+writes_page (Some (cycle.Program n)) = true
+writes_page (Some (cycle.SectorErase n)) = false
+writes_page (Some cycle.ChipErase) = false
+writes_page (Some (cycle.WriteStatus bits)) = false
 
 abbrev pub BlankUnless : Bool → List ℕ → Type 0
 BlankUnless true page = Unit {0}
@@ -121,16 +116,16 @@ fact_of Void = Absent
 fact_of (Selected fact) = fact
 fact_of (Command op sent fact) = fact
 
-abbrev pub HasWpen : FlashStatus → Type 0
-HasWpen Lost = ⊥
-HasWpen (Known s) = wpen s ≡ true
+abbrev pub HasWpen : Option ℕ → Type 0
+HasWpen None = ⊥
+HasWpen (Some s) = wpen s ≡ true
 
-abbrev pub FactOk : LockFact → FlashStatus → Bool → Type 0
+abbrev pub FactOk : LockFact → Option ℕ → Bool → Type 0
 FactOk Absent status lock = Unit {0}
 FactOk Free status lock = HasWpen status × (lock ≡ false)
 FactOk Locked status lock = HasWpen status
 
-pub record Fields (fr : FlashFrame) (c : FlashCycle) (st : FlashStatus) (page : List ℕ) (supply lock : Bool) : Type 0 where
+pub record Fields (fr : FlashFrame) (c : Option FlashCycle) (st : Option ℕ) (page : List ℕ) (supply lock : Bool) : Type 0 where
   pub in_frame : FrameOk fr
   pub in_cycle_lem : CycleOk c
   pub in_status : FlashStatusOk st
@@ -139,7 +134,7 @@ pub record Fields (fr : FlashFrame) (c : FlashCycle) (st : FlashStatus) (page : 
   pub known : InCycle c (IsKnown st)
   pub kept_page : BlankUnless (pick (writes_page c) true (sends_page fr)) page
   pub in_fact : FactOk (fact_of fr) st lock
-  pub dark : supply ≡ false → (c ≡ cycle.None) × Shut fr
+  pub dark : supply ≡ false → (c ≡ None) × Shut fr
 
 abbrev pub Good : Side → Type 0
 Good s = Fields s.chip.frame s.chip.cycle s.chip.status s.chip.page s.lines.supply s.lines.lock

@@ -4,6 +4,5 @@ pub mod Frame
 pub mod Cycle
 pub mod Step
 pub mod Side
-pub mod Equal
 pub mod Good
 pub mod Told

@@ -1,5 +1,5 @@
 -- Believed: One record of channel F, and one of channel L, for the flash (document 01, 'Flash rules', 'Supply').
-use Rattle.std.specs.Prelude.{ℕ, Bool, true, false, List}
+use Rattle.std.specs.Prelude.{ℕ, Bool, List, Option, Some, None, is_none}
 use Rattle.law.specs.Words.{pick}
 use Rattle.record.specs.LineRules.{goes_off, lock_comes_on}
 use Rattle.record.specs.declared.FlashEvent.{FlashEvent}
@@ -16,16 +16,13 @@ use Rattle.flash.specs.declared.Sent.{Sent}
 use Rattle.flash.specs.declared.FlashFrame.{FlashFrame}
 use Rattle.flash.specs.declared.FlashFrame.TheVariants.{Idle, Void, Selected, Command}
 use Rattle.flash.specs.declared.FlashCycle.{FlashCycle}
-use Rattle.flash.specs.declared.FlashCycle.TheVariants.{None}
-use Rattle.flash.specs.declared.FlashStatus.{FlashStatus}
-use Rattle.flash.specs.declared.FlashStatus.TheVariants.{Lost, Known}
 use Rattle.flash.specs.declared.Flash.{Flash}
 use Rattle.flash.specs.declared.FlashStep.{FlashStep}
 use Rattle.flash.specs.declared.Effect.{Effect}
 use Rattle.flash.specs.declared.Effect.TheVariants.{Nothing, Status, Start}
 
 -- a chip whose frame has no data
-abbrev pub bare : FlashFrame → FlashCycle → FlashStatus → List ℕ → Flash
+abbrev pub bare : FlashFrame → Option FlashCycle → Option ℕ → List ℕ → Flash
 bare frame cycle status page = record { frame = frame; cycle = cycle; status = status; page = page_in cycle page }
 
 abbrev pub silently : Flash → FlashStep
@@ -33,7 +30,7 @@ silently f = record { chip = f; reply = Silent }
 
 -- 'Bytes and doubt': at the start idle, write enable off
 abbrev pub start_of : ℕ → Flash
-start_of status = record { frame = Idle; cycle = None; status = Known (kept_bits status); page = blank }
+start_of status = record { frame = Idle; cycle = None; status = Some (kept_bits status); page = blank }
 
 -- the same chip in a frame with no data
 abbrev pub in_frame : Flash → FlashFrame → Flash
@@ -69,11 +66,11 @@ byte_of f si watched = byte_in f.frame f si watched
 -- writing instructions act at `des`, which always leaves the chip idle
 abbrev pub closed_by : Flash → Effect → FlashStep
 closed_by f Nothing = silently (in_frame f Idle)
-closed_by f (Status s) = silently (bare Idle f.cycle (Known s) f.page)
-closed_by f (Start cycle) = record { chip = bare Idle cycle f.status f.page; reply = Starts }
+closed_by f (Status s) = silently (bare Idle f.cycle (Some s) f.page)
+closed_by f (Start cycle) = record { chip = bare Idle (Some cycle) f.status f.page; reply = Starts }
 
 -- a void frame starts nothing
-abbrev pub effect_in : FlashFrame → FlashStatus → Effect
+abbrev pub effect_in : FlashFrame → Option ℕ → Effect
 effect_in Idle status = Nothing
 effect_in Void status = Nothing
 effect_in (Selected fact) status = Nothing
@@ -120,9 +117,9 @@ lock_on_of f = record { frame = locked_frame f.frame; cycle = f.cycle; status = 
 abbrev pub line_of : Flash → LineEvent → Lines → Flash
 line_of f e lines = pick (goes_off lines e) (supply_off_of f) (pick (lock_comes_on lines e) (lock_on_of f) f)
 
-abbrev pub is_lost : FlashStatus → Bool
-is_lost Lost = true
-is_lost (Known s) = false
+-- a status is none once it is lost
+abbrev pub is_lost : Option ℕ → Bool
+is_lost status = is_none status
 
 abbrev pub lost_of : Flash → Bool
 lost_of f = is_lost f.status

@@ -1,5 +1,5 @@
 -- What the records of channel F and their skeleton replies alone tell of the flash, whatever came on channel L between them; and the flash as a control.
-use Rattle.std.specs.Prelude.{ℕ, ◌/◌, ◌%◌, true, ◌≡◌, List}
+use Rattle.std.specs.Prelude.{ℕ, ◌/◌, ◌%◌, true, ◌≡◌, List, Option, Some, None}
 use Rattle.tied.specs.Control.{Cycle, idle, runs, Kind, starts, ends, fetches, plain, Control}
 use Rattle.record.specs.Told.{skeleton_kind, Telling}
 use Rattle.record.specs.declared.FlashEvent.{FlashEvent}
@@ -15,15 +15,11 @@ use Rattle.flash.specs.Side.{Side, side_bus, side_says, side_line}
 use Rattle.flash.specs.Good.{is_program, Good}
 use Rattle.flash.specs.declared.Op.{Op}
 use Rattle.flash.specs.declared.Op.TheVariants.{WriteEnable, WriteDisable, ReadStatus, WriteStatus, Read, Program, SectorErase, ChipErase, Identify}
-use Rattle.flash.specs.declared.Decoded.{Decoded}
-use Rattle.flash.specs.declared.Decoded.TheVariants.{Is, Unknown}
 use Rattle.flash.specs.declared.Sent.{Sent}
 use Rattle.flash.specs.declared.FlashFrame.{FlashFrame}
 use Rattle.flash.specs.declared.FlashFrame.TheVariants.{Idle, Void, Selected, Command}
 use Rattle.flash.specs.declared.FlashCycle.{FlashCycle}
 use Rattle.flash.specs.declared.FlashCycle.TheVariants as cycle
-use Rattle.flash.specs.declared.FlashStatus.{FlashStatus}
-use Rattle.flash.specs.declared.FlashStatus.TheVariants.{Lost, Known}
 use Rattle.flash.specs.declared.Flash.{Flash}
 
 -- ---- a cycle with all that its effect depends on: page number and bytes of a PROGRAM, the sector of an erase, the status bits 7, 3, 2 that say what a chip erase
@@ -34,16 +30,16 @@ pub data Running : Type 0 where
   erases_all : ℕ → Running
   sets_status : ℕ → Running
 
-abbrev pub bits_of : FlashStatus → ℕ
-bits_of Lost = 0
-bits_of (Known s) = kept_bits s
+abbrev pub bits_of : Option ℕ → ℕ
+bits_of None = 0
+bits_of (Some s) = kept_bits s
 
-abbrev pub runs_in : FlashCycle → FlashStatus → List ℕ → Cycle Running
-runs_in cycle.None status page = idle
-runs_in (cycle.Program n) status page = runs (programs n page)
-runs_in (cycle.SectorErase n) status page = runs (erases n)
-runs_in cycle.ChipErase status page = runs (erases_all (bits_of status))
-runs_in (cycle.WriteStatus bits) status page = runs (sets_status bits)
+abbrev pub runs_in : Option FlashCycle → Option ℕ → List ℕ → Cycle Running
+runs_in None status page = idle
+runs_in (Some (cycle.Program n)) status page = runs (programs n page)
+runs_in (Some (cycle.SectorErase n)) status page = runs (erases n)
+runs_in (Some cycle.ChipErase) status page = runs (erases_all (bits_of status))
+runs_in (Some (cycle.WriteStatus bits)) status page = runs (sets_status bits)
 
 abbrev pub runs_of : Flash → Cycle Running
 runs_of f = runs_in f.cycle f.status f.page
@@ -59,9 +55,9 @@ pub record Told : Type 0 where
   pub bits : ℕ
   pub later : ℕ
 
-abbrev pub told_as : Decoded → ToldFrame
-told_as (Is op) = command op op_code_sent
-told_as Unknown = closed
+abbrev pub told_as : Option Op → ToldFrame
+told_as (Some op) = command op op_code_sent
+told_as None = closed
 
 abbrev pub told_byte : ToldFrame → ℕ → ToldFrame
 told_byte closed si = closed
@@ -151,16 +147,16 @@ TracksFrame Void page f q = Unit {0}
 TracksFrame (Selected fact) page f q = f ≡ opened
 TracksFrame (Command op sent fact) page f q = (f ≡ command op sent) × (is_program op ≡ true → page ≡ q)
 
-abbrev pub TracksStatus : FlashStatus → ℕ → Type 0
-TracksStatus Lost bits = Unit {0}
-TracksStatus (Known s) bits = kept_bits s ≡ bits
+abbrev pub TracksStatus : Option ℕ → ℕ → Type 0
+TracksStatus None bits = Unit {0}
+TracksStatus (Some s) bits = kept_bits s ≡ bits
 
-abbrev pub TracksCycle : FlashCycle → ℕ → ℕ → Type 0
-TracksCycle cycle.None bits later = Unit {0}
-TracksCycle (cycle.Program n) bits later = later ≡ bits
-TracksCycle (cycle.SectorErase n) bits later = later ≡ bits
-TracksCycle cycle.ChipErase bits later = later ≡ bits
-TracksCycle (cycle.WriteStatus b) bits later = later ≡ b
+abbrev pub TracksCycle : Option FlashCycle → ℕ → ℕ → Type 0
+TracksCycle None bits later = Unit {0}
+TracksCycle (Some (cycle.Program n)) bits later = later ≡ bits
+TracksCycle (Some (cycle.SectorErase n)) bits later = later ≡ bits
+TracksCycle (Some cycle.ChipErase) bits later = later ≡ bits
+TracksCycle (Some (cycle.WriteStatus b)) bits later = later ≡ b
 
 pub record Tracks (x : Flash) (f : Told) : Type 0 where
   pub in_frame : TracksFrame x.frame x.page f.frame f.page

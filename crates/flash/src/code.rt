@@ -2,24 +2,23 @@
 ghost use Rattle.std.specs.Prelude.{◌≡◌};
 ghost use Rattle.flash.specs.Code.{decode_of, sector_of, kept_bits, with_enable};
 
-use crate::{Decoded, Op};
+use crate::Op;
 
 // The instruction of an op-code. Bit 3 is don't care.
-pub(crate) fn decode(b: u8) -> Decoded
+pub(crate) fn decode(b: u8) -> Option<Op>
     ensures { result ≡ decode_of b }
 {
-    let n = b / 16 * 16 + b % 8;
-    match n {
-        0x06 => Decoded::Is(Op::WriteEnable),
-        0x04 => Decoded::Is(Op::WriteDisable),
-        0x05 => Decoded::Is(Op::ReadStatus),
-        0x01 => Decoded::Is(Op::WriteStatus),
-        0x03 => Decoded::Is(Op::Read),
-        0x02 => Decoded::Is(Op::Program),
-        0x52 => Decoded::Is(Op::SectorErase),
-        0x62 => Decoded::Is(Op::ChipErase),
-        0x15 => Decoded::Is(Op::Identify),
-        _ => Decoded::Unknown,
+    match b / 16 * 16 + b % 8 {
+        0x06 => Some(Op::WriteEnable),
+        0x04 => Some(Op::WriteDisable),
+        0x05 => Some(Op::ReadStatus),
+        0x01 => Some(Op::WriteStatus),
+        0x03 => Some(Op::Read),
+        0x02 => Some(Op::Program),
+        0x52 => Some(Op::SectorErase),
+        0x62 => Some(Op::ChipErase),
+        0x15 => Some(Op::Identify),
+        _ => None,
     }
 }
 

@@ -1,31 +1,16 @@
 // A cycle: what starts one at `des`, and what its end and a supply that goes off leave (document 01, 'Flash rules', 'Supply').
 ghost use Rattle.std.specs.Prelude.{◌≡◌};
-ghost use Rattle.flash.specs.Cycle.{running_of, page_in, may_start, lock_bars, starts_if, sets_if, known_effect, effect_of, end_status, off_status};
+ghost use Rattle.flash.specs.Cycle.{page_in, may_start, lock_bars, starts_if, sets_if, known_effect, effect_of, end_status, off_status};
 
-use crate::{Effect, FlashCycle, FlashPage, FlashStatus, LockFact, Op, Sent, code};
-
-pub(crate) fn running(cycle: FlashCycle) -> bool
-    ensures { result ≡ running_of cycle }
-{
-    match cycle {
-        FlashCycle::None => false,
-        FlashCycle::Program(_) => true,
-        FlashCycle::SectorErase(_) => true,
-        FlashCycle::ChipErase => true,
-        FlashCycle::WriteStatus(_) => true,
-    }
-}
+use crate::{BLANK, Effect, FlashCycle, FlashPage, LockFact, Op, Sent, code};
 
 // The page that is left where no frame has data.
-pub(crate) fn page_in(cycle: FlashCycle, page: FlashPage) -> FlashPage
+pub(crate) fn page_in(cycle: Option<FlashCycle>, page: FlashPage) -> FlashPage
     ensures { result ≡ page_in cycle page }
 {
     match cycle {
-        FlashCycle::None => [0xff; page::FLASH_PAGE as usize],
-        FlashCycle::Program(_) => page,
-        FlashCycle::SectorErase(_) => [0xff; page::FLASH_PAGE as usize],
-        FlashCycle::ChipErase => [0xff; page::FLASH_PAGE as usize],
-        FlashCycle::WriteStatus(_) => [0xff; page::FLASH_PAGE as usize],
+        Some(FlashCycle::Program(_)) => page,
+        _ => BLANK,
     }
 }
 
@@ -33,11 +18,7 @@ pub(crate) fn page_in(cycle: FlashCycle, page: FlashPage) -> FlashPage
 fn may_start(whole: bool, status: u8, barred: bool) -> bool
     ensures { result ≡ may_start whole status barred }
 {
-    if whole {
-        if barred { false } else { status / 2 % 2 == 1 }
-    } else {
-        false
-    }
+    whole && !barred && status / 2 % 2 == 1
 }
 
 // Whether the lock bars a WRSR.
@@ -45,9 +26,8 @@ fn lock_bars(status: u8, fact: LockFact) -> bool
     ensures { result ≡ lock_bars status fact }
 {
     match fact {
-        LockFact::Absent => 128 <= status,
         LockFact::Free => false,
-        LockFact::Locked => 128 <= status,
+        LockFact::Absent | LockFact::Locked => 128 <= status,
     }
 }
 
@@ -77,20 +57,17 @@ fn set_if(whole: bool, status: u8) -> Effect
 fn known_effect(op: Op, sent: Sent, fact: LockFact, s: u8) -> Effect
     ensures { result ≡ known_effect op sent fact s }
 {
-    let count = sent.count;
-    let place = sent.place;
+    let Sent { count, place } = sent;
     let sector = code::sector_of(place);
     let locked = crate::sector_locked(s, sector);
     match op {
         Op::WriteEnable => set_if(count == 1, code::with_enable(s)),
         Op::WriteDisable => set_if(count == 1, code::kept_bits(s)),
-        Op::ReadStatus => Effect::Nothing,
         Op::WriteStatus => {
             let bits = code::kept_bits((place % 256) as u8);
             let may = may_start(count == 2, s, lock_bars(s, fact));
             start_if(may, FlashCycle::WriteStatus(bits))
         }
-        Op::Read => Effect::Nothing,
         Op::Program => {
             let may = may_start(5 <= count, s, locked);
             start_if(may, FlashCycle::Program(place / page::FLASH_PAGE))
@@ -103,48 +80,39 @@ fn known_effect(op: Op, sent: Sent, fact: LockFact, s: u8) -> Effect
             let may = may_start(count == 1, s, crate::sector_locked(s, 1));
             start_if(may, FlashCycle::ChipErase)
         }
-        Op::Identify => Effect::Nothing,
+        Op::ReadStatus | Op::Read | Op::Identify => Effect::Nothing,
     }
 }
 
-// What an instruction does at `des`.
-pub(crate) fn effect_of(op: Op, sent: Sent, fact: LockFact, status: FlashStatus) -> Effect
+// What an instruction does at `des`: nothing with a lost status.
+pub(crate) fn effect_of(op: Op, sent: Sent, fact: LockFact, status: Option<u8>) -> Effect
     ensures { result ≡ effect_of op sent fact status }
 {
-    match status {
-        FlashStatus::Lost => Effect::Nothing,
-        FlashStatus::Known(s) => known_effect(op, sent, fact, s),
-    }
+    let Some(s) = status else {
+        return Effect::Nothing;
+    };
+    known_effect(op, sent, fact, s)
 }
 
 // The status after the end of a cycle.
-pub(crate) fn end_status(cycle: FlashCycle, status: FlashStatus) -> FlashStatus
+pub(crate) fn end_status(cycle: Option<FlashCycle>, status: Option<u8>) -> Option<u8>
     ensures { result ≡ end_status cycle status }
 {
-    match status {
-        FlashStatus::Lost => FlashStatus::Lost,
-        FlashStatus::Known(s) => match cycle {
-            FlashCycle::None => FlashStatus::Known(s),
-            FlashCycle::Program(_) => FlashStatus::Known(code::kept_bits(s)),
-            FlashCycle::SectorErase(_) => FlashStatus::Known(code::kept_bits(s)),
-            FlashCycle::ChipErase => FlashStatus::Known(code::kept_bits(s)),
-            FlashCycle::WriteStatus(bits) => FlashStatus::Known(bits),
-        },
+    let s = status?;
+    match cycle {
+        None => Some(s),
+        Some(FlashCycle::WriteStatus(bits)) => Some(bits),
+        Some(_) => Some(code::kept_bits(s)),
     }
 }
 
 // The status after the supply went off.
-pub(crate) fn off_status(cycle: FlashCycle, status: FlashStatus) -> FlashStatus
+pub(crate) fn off_status(cycle: Option<FlashCycle>, status: Option<u8>) -> Option<u8>
     ensures { result ≡ off_status cycle status }
 {
-    match status {
-        FlashStatus::Lost => FlashStatus::Lost,
-        FlashStatus::Known(s) => match cycle {
-            FlashCycle::None => FlashStatus::Known(code::kept_bits(s)),
-            FlashCycle::Program(_) => FlashStatus::Known(code::kept_bits(s)),
-            FlashCycle::SectorErase(_) => FlashStatus::Known(code::kept_bits(s)),
-            FlashCycle::ChipErase => FlashStatus::Known(code::kept_bits(s)),
-            FlashCycle::WriteStatus(_) => FlashStatus::Lost,
-        },
+    let s = status?;
+    match cycle {
+        Some(FlashCycle::WriteStatus(_)) => None,
+        _ => Some(code::kept_bits(s)),
     }
 }

@@ -2,28 +2,22 @@
 ghost use Rattle.std.specs.Prelude.{◌≡◌};
 ghost use Rattle.flash.specs.Frame.{fact_at, served, opened_as, moved_on, next_sent, fetch_of, identity_of, status_reply, reply_to, put_byte, page_after, voided_by, locked_fact, locked_frame};
 
-use crate::{Decoded, FlashFrame, FlashPage, FlashStatus, LockFact, Op, Sent, code};
+use crate::{FlashFrame, FlashPage, LockFact, Op, Sent, code};
 use record::Skeleton;
 
 // The lock fact at `sel`: the lock's level, where WPEN is 1 and no cycle runs.
-pub(crate) fn fact_at(busy: bool, status: FlashStatus, lock: bool) -> LockFact
+pub(crate) fn fact_at(busy: bool, status: Option<u8>, lock: bool) -> LockFact
     ensures { result ≡ fact_at busy status lock }
 {
-    if busy {
-        return LockFact::Absent;
-    }
     match status {
-        FlashStatus::Lost => LockFact::Absent,
-        FlashStatus::Known(s) => {
-            if s < 128 {
-                return LockFact::Absent;
-            }
+        Some(s) if !busy && 128 <= s => {
             if lock {
                 LockFact::Locked
             } else {
                 LockFact::Free
             }
         }
+        _ => LockFact::Absent,
     }
 }
 
@@ -31,33 +25,18 @@ pub(crate) fn fact_at(busy: bool, status: FlashStatus, lock: bool) -> LockFact
 fn is_served(busy: bool, op: Op) -> bool
     ensures { result ≡ served busy op }
 {
-    match op {
-        Op::WriteEnable => !busy,
-        Op::WriteDisable => !busy,
-        Op::ReadStatus => true,
-        Op::WriteStatus => !busy,
-        Op::Read => !busy,
-        Op::Program => !busy,
-        Op::SectorErase => !busy,
-        Op::ChipErase => !busy,
-        Op::Identify => !busy,
-    }
+    !busy || op == Op::ReadStatus
 }
 
 // The frame after its first byte.
 pub(crate) fn opened(busy: bool, si: u8, fact: LockFact) -> FlashFrame
     ensures { result ≡ opened_as busy si fact }
 {
-    let code = code::decode(si);
-    match code {
-        Decoded::Is(op) => {
-            if is_served(busy, op) {
-                FlashFrame::Command(op, Sent { count: 1, place: 0 }, fact)
-            } else {
-                FlashFrame::Void
-            }
+    match code::decode(si) {
+        Some(op) if is_served(busy, op) => {
+            FlashFrame::Command(op, Sent { count: 1, place: 0 }, fact)
         }
-        Decoded::Unknown => FlashFrame::Void,
+        _ => FlashFrame::Void,
     }
 }
 
@@ -66,16 +45,10 @@ fn moved_on(op: Op, place: u32) -> u32
     ensures { result ≡ moved_on op place }
 {
     match op {
-        Op::WriteEnable => place,
-        Op::WriteDisable => place,
-        Op::ReadStatus => place,
-        Op::WriteStatus => place,
         Op::Read => page::rolled(place, page::FLASH_SIZE - 1),
         Op::Program => place / page::FLASH_PAGE * page::FLASH_PAGE
             + page::rolled(place % page::FLASH_PAGE, page::FLASH_PAGE - 1),
-        Op::SectorErase => place,
-        Op::ChipErase => place,
-        Op::Identify => place,
+        _ => place,
     }
 }
 
@@ -83,8 +56,7 @@ fn moved_on(op: Op, place: u32) -> u32
 pub(crate) fn next_sent(op: Op, sent: Sent, si: u8) -> Sent
     ensures { result ≡ next_sent op sent si }
 {
-    let count = sent.count;
-    let place = sent.place;
+    let Sent { count, place } = sent;
     if count < 4 {
         Sent {
             count: count + 1,
@@ -102,12 +74,8 @@ pub(crate) fn next_sent(op: Op, sent: Sent, si: u8) -> Sent
 fn fetch(sent: Sent, watched: u8) -> Skeleton
     ensures { result ≡ fetch_of sent watched }
 {
-    let place = sent.place;
-    if sent.count < 4 {
-        return Skeleton::Silent;
-    }
-    if code::sector_of(place) == watched {
-        Skeleton::Fetch(place % page::FLASH_SECTOR)
+    if 4 <= sent.count && code::sector_of(sent.place) == watched {
+        Skeleton::Fetch(sent.place % page::FLASH_SECTOR)
     } else {
         Skeleton::Silent
     }
@@ -125,29 +93,24 @@ fn identity(count: u32) -> Skeleton
 }
 
 // What RDSR delivers.
-fn status_reply(busy: bool, status: FlashStatus) -> Skeleton
+fn status_reply(busy: bool, status: Option<u8>) -> Skeleton
     ensures { result ≡ status_reply busy status }
 {
     match status {
-        FlashStatus::Lost => Skeleton::Silent,
-        FlashStatus::Known(s) => Skeleton::Given(if busy { 0xff } else { s }),
+        None => Skeleton::Silent,
+        Some(s) => Skeleton::Given(if busy { 0xff } else { s }),
     }
 }
 
 // The reply to a byte after the op-code.
-pub(crate) fn reply_to(op: Op, sent: Sent, busy: bool, status: FlashStatus, watched: u8) -> Skeleton
+pub(crate) fn reply_to(op: Op, sent: Sent, busy: bool, status: Option<u8>, watched: u8) -> Skeleton
     ensures { result ≡ reply_to op sent busy status watched }
 {
     match op {
-        Op::WriteEnable => Skeleton::Silent,
-        Op::WriteDisable => Skeleton::Silent,
         Op::ReadStatus => status_reply(busy, status),
-        Op::WriteStatus => Skeleton::Silent,
         Op::Read => fetch(sent, watched),
-        Op::Program => Skeleton::Silent,
-        Op::SectorErase => Skeleton::Silent,
-        Op::ChipErase => Skeleton::Silent,
         Op::Identify => identity(sent.count),
+        _ => Skeleton::Silent,
     }
 }
 
@@ -156,11 +119,9 @@ fn put_byte(sent: Sent, si: u8, page: FlashPage) -> FlashPage
     ensures { result ≡ put_byte sent si page }
 {
     let mut next = page;
-    if sent.count < 4 {
-        return next;
+    if 4 <= sent.count {
+        next[(sent.place % page::FLASH_PAGE) as usize] = si;
     }
-    let at = (sent.place % page::FLASH_PAGE) as usize;
-    next[at] = si;
     next
 }
 
@@ -169,15 +130,8 @@ pub(crate) fn page_after(op: Op, sent: Sent, si: u8, page: FlashPage) -> FlashPa
     ensures { result ≡ page_after op sent si page }
 {
     match op {
-        Op::WriteEnable => page,
-        Op::WriteDisable => page,
-        Op::ReadStatus => page,
-        Op::WriteStatus => page,
-        Op::Read => page,
         Op::Program => put_byte(sent, si, page),
-        Op::SectorErase => page,
-        Op::ChipErase => page,
-        Op::Identify => page,
+        _ => page,
     }
 }
 
@@ -187,9 +141,7 @@ pub(crate) fn voided(frame: FlashFrame) -> FlashFrame
 {
     match frame {
         FlashFrame::Idle => FlashFrame::Idle,
-        FlashFrame::Void => FlashFrame::Void,
-        FlashFrame::Selected(_) => FlashFrame::Void,
-        FlashFrame::Command(_, _, _) => FlashFrame::Void,
+        _ => FlashFrame::Void,
     }
 }
 
@@ -198,9 +150,8 @@ fn locked_fact(fact: LockFact) -> LockFact
     ensures { result ≡ locked_fact fact }
 {
     match fact {
-        LockFact::Absent => LockFact::Absent,
         LockFact::Free => LockFact::Locked,
-        LockFact::Locked => LockFact::Locked,
+        LockFact::Absent | LockFact::Locked => fact,
     }
 }
 
@@ -209,8 +160,7 @@ pub(crate) fn locked(frame: FlashFrame) -> FlashFrame
     ensures { result ≡ locked_frame frame }
 {
     match frame {
-        FlashFrame::Idle => FlashFrame::Idle,
-        FlashFrame::Void => FlashFrame::Void,
+        FlashFrame::Idle | FlashFrame::Void => frame,
         FlashFrame::Selected(fact) => FlashFrame::Selected(locked_fact(fact)),
         FlashFrame::Command(op, sent, fact) => FlashFrame::Command(op, sent, locked_fact(fact)),
     }

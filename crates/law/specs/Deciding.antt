@@ -1,5 +1,5 @@
 -- Flags that say whether something holds.
-use Rattle.std.specs.Prelude.{◌≡◌, refl, Bool, true, false, not, ℕ, eqb}
+use Rattle.std.specs.Prelude.{◌≡◌, refl, Bool, true, false, not, ◌&&◌, ℕ, eqb}
 use Rattle.std.proofs.Common.{sym, eqb-true}
 use Rattle.std.specs.Bool.{beq}
 use Rattle.std.proofs.lemmas.Bool.{eqb-false, not-true, not-false}
@@ -19,6 +19,11 @@ decides_false n = record { holds = λ e. absurd (true_not_false (sym e)); fails 
 -- a flag that decides P decides what is equivalent to P
 pub decides_as : {b : Bool} {P Q : Type 0} → Decides b P → (P → Q) → (Q → P) → Decides b Q
 decides_as d f g = record { holds = λ e. f (d.holds e); fails = λ e q. d.fails e (g q) }
+
+-- two flags asked together
+pub decides_both : {a b : Bool} {P Q : Type 0} → Decides a P → Decides b Q → Decides (a && b) (P × Q)
+decides_both {a = true} d e = record { holds = λ t. (d.holds refl, e.holds t); fails = λ t p. e.fails t p.1 }
+decides_both {a = false} d e = record { holds = λ t. absurd (true_not_false (sym t)); fails = λ t p. d.fails refl p.0 }
 
 -- the flag is determined
 pub decides_one : (a b : Bool) {P : Type 0} → Decides a P → Decides b P → a ≡ b
