@@ -5,12 +5,12 @@
 
 ghost use Rattle.std.specs.Prelude.{◌≡◌, ◌≤◌, length, IfOk};
 
-use flash::{Flash, FlashCycle, FlashFrame, FlashStatus, LockFact, Op};
+use flash::{Flash, FlashCycle, FlashFrame, LockFact, Op};
 use record::{FlashEvent, LineEvent, Lines, Skeleton};
 use std::io;
 use std::io::Read;
 
-#[derive(Drop)]
+#[derive(Clone, Copy)]
 struct Bench {
     chip: Flash,
     lines: Lines,
@@ -18,142 +18,108 @@ struct Bench {
     typed: u8,
 }
 
-fn put<R: Print>(rt: &R, c: char) -> io::Result<()> {
-    print!(rt; "{c}")
-}
-
-fn put_byte<R: Print>(rt: &R, b: u8) -> io::Result<()> {
-    print!(rt; "{b:02x}")
-}
-
 fn put_reply<R: Print>(rt: &R, k: Skeleton) -> io::Result<()> {
     match k {
-        Skeleton::Silent => put(rt, '.'),
+        Skeleton::Silent => print!(rt; "."),
         Skeleton::Given(b) => print!(rt; "g{b:02x}"),
         Skeleton::Fetch(p) => print!(rt; "r{p:04x}"),
-        Skeleton::Ack => put(rt, '?'),
-        Skeleton::NoAck => put(rt, '?'),
-        Skeleton::Starts => put(rt, 'S'),
-        Skeleton::Ends => put(rt, 'E'),
-        Skeleton::NoCycle => put(rt, '7'),
+        Skeleton::Ack | Skeleton::NoAck => print!(rt; "?"),
+        Skeleton::Starts => print!(rt; "S"),
+        Skeleton::Ends => print!(rt; "E"),
+        Skeleton::NoCycle => print!(rt; "7"),
     }
 }
 
-fn put_fact<R: Print>(rt: &R, fact: LockFact) -> io::Result<()> {
+fn fact_letter(fact: LockFact) -> char {
     match fact {
-        LockFact::Absent => put(rt, '-'),
-        LockFact::Free => put(rt, 'f'),
-        LockFact::Locked => put(rt, 'l'),
+        LockFact::Absent => '-',
+        LockFact::Free => 'f',
+        LockFact::Locked => 'l',
     }
 }
 
-fn put_op<R: Print>(rt: &R, op: Op) -> io::Result<()> {
+fn op_letter(op: Op) -> char {
     match op {
-        Op::WriteEnable => put(rt, 'e'),
-        Op::WriteDisable => put(rt, 'd'),
-        Op::ReadStatus => put(rt, 's'),
-        Op::WriteStatus => put(rt, 'w'),
-        Op::Read => put(rt, 'r'),
-        Op::Program => put(rt, 'p'),
-        Op::SectorErase => put(rt, 'x'),
-        Op::ChipErase => put(rt, 'c'),
-        Op::Identify => put(rt, 'i'),
+        Op::WriteEnable => 'e',
+        Op::WriteDisable => 'd',
+        Op::ReadStatus => 's',
+        Op::WriteStatus => 'w',
+        Op::Read => 'r',
+        Op::Program => 'p',
+        Op::SectorErase => 'x',
+        Op::ChipErase => 'c',
+        Op::Identify => 'i',
     }
 }
 
 fn put_frame<R: Print>(rt: &R, frame: FlashFrame) -> io::Result<()> {
-    put(rt, ' ')?;
     match frame {
-        FlashFrame::Idle => put(rt, 'I'),
-        FlashFrame::Void => put(rt, 'V'),
-        FlashFrame::Selected(fact) => {
-            put(rt, 'O')?;
-            put_fact(rt, fact)
-        }
+        FlashFrame::Idle => print!(rt; " I"),
+        FlashFrame::Void => print!(rt; " V"),
+        FlashFrame::Selected(fact) => print!(rt; " O{}", fact_letter(fact)),
         FlashFrame::Command(op, sent, fact) => {
-            let count = sent.count;
-            put_op(rt, op)?;
-            print!(rt; "{count:x}")?;
-            put_fact(rt, fact)
+            print!(rt; " {}{:x}{}", op_letter(op), sent.count, fact_letter(fact))
         }
     }
 }
 
-fn put_cycle<R: Print>(rt: &R, cycle: FlashCycle) -> io::Result<()> {
+fn put_cycle<R: Print>(rt: &R, cycle: Option<FlashCycle>) -> io::Result<()> {
     match cycle {
-        FlashCycle::None => print!(rt; " -"),
-        FlashCycle::Program(n) => print!(rt; " p{n:03x}"),
-        FlashCycle::SectorErase(n) => print!(rt; " x{n:x}"),
-        FlashCycle::ChipErase => print!(rt; " c"),
-        FlashCycle::WriteStatus(b) => print!(rt; " w{b:02x}"),
+        None => print!(rt; " -"),
+        Some(FlashCycle::Program(n)) => print!(rt; " p{n:03x}"),
+        Some(FlashCycle::SectorErase(n)) => print!(rt; " x{n:x}"),
+        Some(FlashCycle::ChipErase) => print!(rt; " c"),
+        Some(FlashCycle::WriteStatus(b)) => print!(rt; " w{b:02x}"),
     }
 }
 
-fn put_status<R: Print>(rt: &R, status: FlashStatus) -> io::Result<()> {
+fn put_status<R: Print>(rt: &R, status: Option<u8>) -> io::Result<()> {
     match status {
-        FlashStatus::Lost => print!(rt; " -"),
-        FlashStatus::Known(s) => print!(rt; " {s:02x}"),
+        None => print!(rt; " -"),
+        Some(s) => print!(rt; " {s:02x}"),
     }
 }
 
 // The state; of the page, its first and its last two places.
 fn put_chip<R: Print>(rt: &R, chip: Flash) -> io::Result<()> {
-    let page = chip.page;
     put_frame(rt, chip.frame)?;
     put_cycle(rt, chip.cycle)?;
     put_status(rt, chip.status)?;
-    put(rt, ' ')?;
-    put_byte(rt, page[0])?;
-    put_byte(rt, page[1])?;
-    put_byte(rt, page[254])?;
-    put_byte(rt, page[255])?;
-    put(rt, '\n')
+    let [first, second, .., last_but_one, last] = chip.page;
+    println!(rt; " {first:02x}{second:02x}{last_but_one:02x}{last:02x}")
 }
 
 fn started(status: u8, watched: u8) -> Bench {
     Bench {
         chip: Flash::start(status),
         lines: record::lines_at_start(),
-        watched: watched,
+        watched,
         typed: 0,
     }
 }
 
 impl Bench {
     fn bus<R: Print>(self, rt: &R, e: FlashEvent) -> io::Result<Bench> {
-        let chip = self.chip;
-        let lines = self.lines;
-        let step = chip.step(e, lines, self.watched);
-        let next = step.chip;
-        let reply = step.reply;
-        put_reply(rt, reply)?;
+        let step = self.chip.step(e, self.lines, self.watched);
+        put_reply(rt, step.reply)?;
         Ok(Bench {
-            chip: next,
-            lines: lines,
-            watched: self.watched,
-            typed: self.typed,
+            chip: step.chip,
+            ..self
         })
     }
 
     fn line(self, e: LineEvent) -> Bench {
-        let chip = self.chip;
-        let lines = self.lines;
         Bench {
-            chip: chip.line(e, lines),
-            lines: record::lines_after(lines, e),
-            watched: self.watched,
-            typed: self.typed,
+            chip: self.chip.line(e, self.lines),
+            lines: record::lines_after(self.lines, e),
+            ..self
         }
     }
 
     fn typing(self, digit: u8) -> Bench {
-        let chip = self.chip;
-        let lines = self.lines;
         Bench {
-            chip: chip,
-            lines: lines,
-            watched: self.watched,
             typed: self.typed % 16 * 16 + digit % 16,
+            ..self
         }
     }
 
@@ -168,21 +134,13 @@ impl Bench {
             b'0'..=b'9' => Ok(self.typing(c % 16)),
             b'a'..=b'f' => Ok(self.typing(c % 16 + 9)),
             b'B' => Ok(started(self.typed, self.watched)),
-            b'W' => {
-                let chip = self.chip;
-                let lines = self.lines;
-                Ok(Bench {
-                    chip: chip,
-                    lines: lines,
-                    watched: self.typed,
-                    typed: 0,
-                })
-            }
+            b'W' => Ok(Bench {
+                watched: self.typed,
+                typed: 0,
+                ..self
+            }),
             b'S' => self.bus(rt, FlashEvent::Select),
-            b'X' => {
-                let typed = self.typed;
-                self.bus(rt, FlashEvent::Byte(typed, 0))
-            }
+            b'X' => self.bus(rt, FlashEvent::Byte(self.typed, 0)),
             b'C' => self.bus(rt, FlashEvent::Cut),
             b'D' => self.bus(rt, FlashEvent::Deselect),
             b'E' => self.bus(rt, FlashEvent::End),
@@ -197,8 +155,8 @@ impl Bench {
 
 fn play<R: Print>(rt: &R, script: &[u8]) -> io::Result<()> {
     let mut bench = started(0, 1);
-    for c in script {
-        bench = bench.played(rt, *c)?;
+    for &c in script {
+        bench = bench.played(rt, c)?;
     }
     Ok(())
 }
