@@ -1,5 +1,6 @@
 -- Believed: What the cycles do to the images, whole at `end` and cut by `off` (document 01, 'Flash rules', 'EEPROM rules', 'Supply'; requests 1/12 and 3/12), and which pages they touch.
-use Rattle.std.specs.Prelude.{ℕ, ◌+◌, ◌/◌, ◌%◌, Bool, true, not, List, eqb}
+use Rattle.std.specs.Prelude.{◌≡◌, ℕ, ◌+◌, ◌/◌, ◌%◌, Bool, true, not, List, eqb, Option}
+use Rattle.std.specs.declared.option.Option.TheVariants as option
 use Rattle.law.specs.Words.{pick}
 use Rattle.record.specs.declared.Board.{Board}
 use Rattle.record.specs.declared.Chip.{Chip}
@@ -18,9 +19,7 @@ use Rattle.flash.specs.declared.FlashCycle.{FlashCycle}
 use Rattle.flash.specs.declared.FlashCycle.TheVariants as flash-cycle
 use Rattle.flash.specs.Code.{sector_locked}
 use Rattle.eeprom.specs.declared.Eeprom.{Eeprom}
-use Rattle.eeprom.specs.declared.EepromCycle.{EepromCycle}
 use Rattle.eeprom.specs.declared.Sent.{Sent}
-use Rattle.eeprom.specs.declared.EepromCycle.TheVariants as eeprom-cycle
 use Rattle.controls.specs.declared.Controls.{Controls}
 use Rattle.page.specs.Geometry.{sector_pages}
 use Rattle.image.specs.Image.{Image}
@@ -75,15 +74,21 @@ flash_pages watched flash-cycle.ChipErase status = pick (reached status watched)
 flash_pages watched (flash-cycle.WriteStatus bits) status = None
 
 -- and the EEPROM's, of which all bytes are kept
-abbrev pub eeprom_pages : EepromCycle → Pages
-eeprom_pages eeprom-cycle.None = None
-eeprom_pages (eeprom-cycle.Write s) = One s.page
+abbrev pub eeprom_pages : Option Sent → Pages
+eeprom_pages option.None = None
+eeprom_pages (option.Some s) = One s.page
 
 -- a stroke touches the pages of the cycle that it ends or cuts
 abbrev pub stroke_pages : Stroke → Pages → Pages
 stroke_pages Nothing p = None
 stroke_pages Whole p = p
 stroke_pages Cut p = p
+
+-- the same of pages of which P holds
+abbrev pub Touches : Stroke → (Pages → Type 0) → Pages → Type 0
+Touches Nothing P p = p ≡ None
+Touches Whole P p = P p
+Touches Cut P p = P p
 
 abbrev pub flash_touched : Stroke → ℕ → Flash → Pages
 flash_touched s watched f = stroke_pages s (flash_pages watched f.cycle f.status)
@@ -103,9 +108,9 @@ erase_by Whole i = erase_all i
 erase_by Cut i = cut_erase_all i
 
 -- what was sent in a write; where none runs, no page is touched either
-abbrev pub sent_in : EepromCycle → Sent
-sent_in eeprom-cycle.None = record { page = 0; first = 0; count = 0 }
-sent_in (eeprom-cycle.Write s) = s
+abbrev pub sent_in : Option Sent → Sent
+sent_in option.None = record { page = 0; first = 0; count = 0 }
+sent_in (option.Some s) = s
 
 abbrev pub store_by : Stroke → Sent → List ℕ → ℕ → Image → Image
 store_by Nothing sent bytes n i = i

@@ -1,12 +1,11 @@
 // What a record does to the chips' cycles, which pages it touches so, and what becomes of the images there.
 ghost use Rattle.std.specs.Prelude.{◌≡◌};
 ghost use Rattle.image.specs.Image.{image_of};
-ghost use Rattle.image.specs.Images.{per_chip};
 ghost use Rattle.times.specs.Times.{on_pages};
-ghost use Rattle.machine.specs.Effects.{stroke_of, line_stroke, stroke_for, reached, flash_pages, eeprom_pages, stroke_pages, program_by, erase_by, sent_in, store_by};
+ghost use Rattle.machine.specs.Effects.{stroke_of, line_stroke, stroke_for, reached, flash_pages, eeprom_pages, Touches, flash_touched, eeprom_touched, program_by, erase_by, sent_in, store_by};
 
-use eeprom::{Eeprom, EepromCycle, EepromPage, Sent};
-use flash::{Flash, FlashCycle, FlashPage, FlashStatus};
+use eeprom::{Eeprom, Sent};
+use flash::{Flash, FlashCycle, FlashStatus};
 use record::{Chip, Event, LineEvent, Lines, Skeleton};
 use times::Pages;
 
@@ -22,14 +21,8 @@ fn stroke_of(k: Skeleton) -> Stroke
     ensures { result ≡ stroke_of k }
 {
     match k {
-        Skeleton::Silent => Stroke::Nothing,
-        Skeleton::Given(_) => Stroke::Nothing,
-        Skeleton::Fetch(_) => Stroke::Nothing,
-        Skeleton::Ack => Stroke::Nothing,
-        Skeleton::NoAck => Stroke::Nothing,
-        Skeleton::Starts => Stroke::Nothing,
         Skeleton::Ends => Stroke::Whole,
-        Skeleton::NoCycle => Stroke::Nothing,
+        _ => Stroke::Nothing,
     }
 }
 
@@ -43,23 +36,14 @@ fn line_stroke(lines: Lines, e: LineEvent) -> Stroke
     }
 }
 
-fn per_chip(flash: Stroke, eeprom: Stroke, chip: Chip) -> Stroke
-    ensures { result ≡ per_chip flash eeprom chip }
-{
-    match chip {
-        Chip::Flash => flash,
-        Chip::Eeprom => eeprom,
-    }
-}
-
 // What a record, with its reply, does to the chip's cycle.
 pub(crate) fn stroke_for(chip: Chip, lines: Lines, event: Event, k: Skeleton) -> Stroke
     ensures { result ≡ stroke_for chip lines event k }
 {
-    match event {
-        Event::Flash(_) => per_chip(stroke_of(k), Stroke::Nothing, chip),
-        Event::Eeprom(_) => per_chip(Stroke::Nothing, stroke_of(k), chip),
-        Event::Line(e) => line_stroke(lines, e),
+    match (event, chip) {
+        (Event::Flash(_), Chip::Flash) | (Event::Eeprom(_), Chip::Eeprom) => stroke_of(k),
+        (Event::Flash(_), Chip::Eeprom) | (Event::Eeprom(_), Chip::Flash) => Stroke::Nothing,
+        (Event::Line(e), _) => line_stroke(lines, e),
     }
 }
 
@@ -78,100 +62,46 @@ fn flash_pages(watched: u8, cycle: FlashCycle, status: FlashStatus) -> Pages
     ensures { result ≡ flash_pages watched cycle status }
 {
     match cycle {
-        FlashCycle::None => Pages::None,
-        FlashCycle::Program(n) => {
-            if n / page::SECTOR_PAGES + 1 == watched as u32 {
-                return Pages::One(n % page::SECTOR_PAGES);
-            }
-            Pages::None
+        FlashCycle::Program(n) if n / page::SECTOR_PAGES + 1 == u32::from(watched) => {
+            Pages::One(n % page::SECTOR_PAGES)
         }
-        FlashCycle::SectorErase(sector) => {
-            if sector == watched {
-                return Pages::All;
-            }
-            Pages::None
-        }
-        FlashCycle::ChipErase => {
-            if reaches(status, watched) {
-                return Pages::All;
-            }
-            Pages::None
-        }
-        FlashCycle::WriteStatus(_) => Pages::None,
+        FlashCycle::SectorErase(sector) if sector == watched => Pages::All,
+        FlashCycle::ChipErase if reaches(status, watched) => Pages::All,
+        _ => Pages::None,
     }
 }
 
 // And the EEPROM's.
-fn eeprom_pages(cycle: EepromCycle) -> Pages
+fn eeprom_pages(cycle: Option<Sent>) -> Pages
     ensures { result ≡ eeprom_pages cycle }
 {
     match cycle {
-        EepromCycle::None => Pages::None,
-        EepromCycle::Write(s) => Pages::One(s.page),
+        None => Pages::None,
+        Some(sent) => Pages::One(sent.page),
     }
 }
 
-// A stroke touches the pages of the cycle that it ends or cuts.
-pub(crate) fn flash_touched(
-    stroke: Stroke,
-    watched: u8,
-    cycle: FlashCycle,
-    status: FlashStatus,
-) -> Pages
-    ensures { result ≡ stroke_pages stroke (flash_pages watched cycle status) }
+// A stroke touches the pages of the cycle that it ends or cuts; without one they are not asked for.
+fn touched<P: FnOnce() -> Pages>(stroke: Stroke, pages: P) -> Pages
+    requires { P.pre pages }
+    ensures { Touches stroke (P.post pages) result }
 {
     match stroke {
         Stroke::Nothing => Pages::None,
-        Stroke::Whole => flash_pages(watched, cycle, status),
-        Stroke::Cut => flash_pages(watched, cycle, status),
+        Stroke::Whole | Stroke::Cut => pages(),
     }
 }
 
-pub(crate) fn eeprom_touched(stroke: Stroke, cycle: EepromCycle) -> Pages
-    ensures { result ≡ stroke_pages stroke (eeprom_pages cycle) }
+pub(crate) fn flash_touched(stroke: Stroke, watched: u8, chip: Flash) -> Pages
+    ensures { result ≡ flash_touched stroke watched chip }
 {
-    match stroke {
-        Stroke::Nothing => Pages::None,
-        Stroke::Whole => eeprom_pages(cycle),
-        Stroke::Cut => eeprom_pages(cycle),
-    }
+    touched(stroke, || flash_pages(watched, chip.cycle, chip.status))
 }
 
-// A PROGRAM of these bytes in a page.
-fn program_by(stroke: Stroke, bytes: FlashPage, n: u32, values: &mut [u8], masks: &mut [u8])
-    ensures { image_of values.new masks.new ≡ program_by stroke bytes n (image_of values.old masks.old) }
+pub(crate) fn eeprom_touched(stroke: Stroke, chip: Eeprom) -> Pages
+    ensures { result ≡ eeprom_touched stroke chip }
 {
-    match stroke {
-        Stroke::Nothing => {
-            return;
-        }
-        Stroke::Whole => {
-            image::program_page(values, masks, n as usize, bytes);
-            return;
-        }
-        Stroke::Cut => {
-            image::cut_program_page(values, masks, n as usize, bytes);
-            return;
-        }
-    }
-}
-
-fn erase_by(stroke: Stroke, values: &mut [u8], masks: &mut [u8])
-    ensures { image_of values.new masks.new ≡ erase_by stroke (image_of values.old masks.old) }
-{
-    match stroke {
-        Stroke::Nothing => {
-            return;
-        }
-        Stroke::Whole => {
-            image::erase(values, masks);
-            return;
-        }
-        Stroke::Cut => {
-            image::cut_erase(values, masks);
-            return;
-        }
-    }
+    touched(stroke, || eeprom_pages(chip.cycle))
 }
 
 // What a stroke makes of the flash's image, on the pages that it touches.
@@ -184,66 +114,28 @@ pub(crate) fn change_flash(
 )
     ensures { image_of values.new masks.new ≡ on_pages (program_by stroke chip.page) (erase_by stroke) pages (image_of values.old masks.old) }
 {
-    match pages {
-        Pages::None => {
-            return;
+    match (stroke, pages) {
+        (Stroke::Nothing, _) | (_, Pages::None) => {}
+        (Stroke::Whole, Pages::One(n)) => {
+            image::program_page(values, masks, n as usize, chip.page)
         }
-        Pages::One(n) => {
-            let bytes = chip.page;
-            program_by(stroke, bytes, n, values, masks);
-            return;
+        (Stroke::Cut, Pages::One(n)) => {
+            image::cut_program_page(values, masks, n as usize, chip.page)
         }
-        Pages::All => {
-            erase_by(stroke, values, masks);
-            return;
-        }
+        (Stroke::Whole, Pages::All) => image::erase(values, masks),
+        (Stroke::Cut, Pages::All) => image::cut_erase(values, masks),
     }
 }
 
 // What was sent in a write; where none runs, no page is touched either.
-fn sent_in(cycle: EepromCycle) -> Sent
+fn sent_in(cycle: Option<Sent>) -> Sent
     ensures { result ≡ sent_in cycle }
 {
-    match cycle {
-        EepromCycle::None => Sent {
-            page: 0,
-            first: 0,
-            count: 0,
-        },
-        EepromCycle::Write(s) => s,
-    }
-}
-
-fn store_by(
-    stroke: Stroke,
-    sent: Sent,
-    bytes: EepromPage,
-    n: u32,
-    values: &mut [u8],
-    masks: &mut [u8],
-)
-    ensures { image_of values.new masks.new ≡ store_by stroke sent bytes n (image_of values.old masks.old) }
-{
-    match stroke {
-        Stroke::Nothing => {
-            return;
-        }
-        Stroke::Whole => {
-            image::store_page(
-                values,
-                masks,
-                n as usize,
-                sent.first as usize,
-                sent.count as usize,
-                bytes,
-            );
-            return;
-        }
-        Stroke::Cut => {
-            image::cut_store_page(values, masks, n as usize);
-            return;
-        }
-    }
+    cycle.unwrap_or(Sent {
+        page: 0,
+        first: 0,
+        count: 0,
+    })
 }
 
 // The same of the EEPROM's image; it has no erase.
@@ -256,18 +148,19 @@ pub(crate) fn change_eeprom(
 )
     ensures { image_of values.new masks.new ≡ on_pages (store_by stroke (sent_in chip.cycle) chip.page) (λ i. i) pages (image_of values.old masks.old) }
 {
-    match pages {
-        Pages::None => {
-            return;
+    match (stroke, pages) {
+        (Stroke::Whole, Pages::One(n)) => {
+            let sent = sent_in(chip.cycle);
+            image::store_page(
+                values,
+                masks,
+                n as usize,
+                sent.first as usize,
+                sent.count as usize,
+                chip.page,
+            )
         }
-        Pages::One(n) => {
-            let cycle = chip.cycle;
-            let bytes = chip.page;
-            store_by(stroke, sent_in(cycle), bytes, n, values, masks);
-            return;
-        }
-        Pages::All => {
-            return;
-        }
+        (Stroke::Cut, Pages::One(n)) => image::cut_store_page(values, masks, n as usize),
+        (Stroke::Nothing, _) | (_, Pages::None | Pages::All) => {}
     }
 }

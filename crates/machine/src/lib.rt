@@ -37,24 +37,25 @@ pub fn play(
 {
     let moved = controls.play(board, rec);
     let skeleton = moved.reply;
-    let next = moved.controls;
-    let event = rec.event;
-    let lines = controls.lines;
-    let reply = replies::deliver_for(event, flash, flash_mask, eeprom, eeprom_mask, skeleton);
-    let f = controls.flash;
-    let on_flash = effects::stroke_for(Chip::Flash, lines, event, skeleton);
-    let flash_cycle = f.cycle;
-    let status = f.status;
-    let flash_pages = effects::flash_touched(on_flash, board.sector, flash_cycle, status);
-    effects::change_flash(on_flash, flash_pages, f, flash, flash_mask);
-    let e = controls.eeprom;
-    let on_eeprom = effects::stroke_for(Chip::Eeprom, lines, event, skeleton);
-    let eeprom_cycle = e.cycle;
-    let eeprom_pages = effects::eeprom_touched(on_eeprom, eeprom_cycle);
-    effects::change_eeprom(on_eeprom, eeprom_pages, e, eeprom, eeprom_mask);
+    let reply = replies::deliver_for(rec.event, flash, flash_mask, eeprom, eeprom_mask, skeleton);
+
+    let on_flash = effects::stroke_for(Chip::Flash, controls.lines, rec.event, skeleton);
+    let flash_pages = effects::flash_touched(on_flash, board.sector, controls.flash);
+    effects::change_flash(on_flash, flash_pages, controls.flash, flash, flash_mask);
+
+    let on_eeprom = effects::stroke_for(Chip::Eeprom, controls.lines, rec.event, skeleton);
+    let eeprom_pages = effects::eeprom_touched(on_eeprom, controls.eeprom);
+    effects::change_eeprom(
+        on_eeprom,
+        eeprom_pages,
+        controls.eeprom,
+        eeprom,
+        eeprom_mask,
+    );
+
     Played {
-        controls: next,
-        reply: reply,
+        controls: moved.controls,
+        reply,
         touched: Touched {
             flash: flash_pages,
             eeprom: eeprom_pages,

@@ -12,11 +12,7 @@ use record::{EepromEvent, Event, FlashEvent, Match, Reply, Skeleton};
 fn element(list: &[u8], p: u32) -> u8
     ensures { result ≡ get_or list.now p 0 }
 {
-    let at = p as usize;
-    if at < list.len() {
-        return list[at];
-    }
-    0
+    list.get(p as usize).copied().unwrap_or(0)
 }
 
 // A reply as it is delivered from an image.
@@ -47,9 +43,8 @@ pub(crate) fn deliver_for(
     ensures { result ≡ delivered (image_for event (images_of flash.now flash_mask.now eeprom.now eeprom_mask.now)) k }
 {
     match event {
-        Event::Flash(_) => deliver(flash, flash_mask, k),
+        Event::Flash(_) | Event::Line(_) => deliver(flash, flash_mask, k),
         Event::Eeprom(_) => deliver(eeprom, eeprom_mask, k),
-        Event::Line(_) => deliver(flash, flash_mask, k),
     }
 }
 
@@ -57,9 +52,10 @@ pub(crate) fn deliver_for(
 fn agrees_if(flag: bool) -> Match
     ensures { result ≡ agrees_if flag }
 {
-    match flag {
-        true => Match::Agrees,
-        false => Match::Disagrees,
+    if flag {
+        Match::Agrees
+    } else {
+        Match::Disagrees
     }
 }
 
@@ -67,51 +63,20 @@ fn compare_byte(value: u8, mask: u8, seen: u8) -> Match
     ensures { result ≡ compared_byte value mask seen }
 {
     if mask == 255 {
-        return Match::Nothing;
+        Match::Nothing
+    } else {
+        agrees_if(cell::agrees(Cell { value, mask }, seen))
     }
-    let c = Cell {
-        value: value,
-        mask: mask,
-    };
-    agrees_if(cell::agrees(c, seen))
 }
 
 fn compare_to(seen: u8, ack: Match, lack: Match, reply: Reply) -> Match
     ensures { result ≡ compared_to seen ack lack reply }
 {
     match reply {
-        Reply::NotPlayed => Match::Nothing,
-        Reply::Silent => Match::Nothing,
         Reply::Byte(value, mask) => compare_byte(value, mask, seen),
         Reply::Ack => ack,
         Reply::NoAck => lack,
-        Reply::Starts => Match::Nothing,
-        Reply::Ends => Match::Nothing,
-        Reply::NoCycle => Match::Nothing,
-    }
-}
-
-fn see_flash(e: FlashEvent, reply: Reply) -> Match
-    ensures { result ≡ flash_seen e reply }
-{
-    match e {
-        FlashEvent::Select => Match::Nothing,
-        FlashEvent::Byte(_, so) => compare_to(so, Match::Nothing, Match::Nothing, reply),
-        FlashEvent::Cut => Match::Nothing,
-        FlashEvent::Deselect => Match::Nothing,
-        FlashEvent::End => Match::Nothing,
-    }
-}
-
-fn see_eeprom(e: EepromEvent, reply: Reply) -> Match
-    ensures { result ≡ eeprom_seen e reply }
-{
-    match e {
-        EepromEvent::Start => Match::Nothing,
-        EepromEvent::Byte(b, bit) => compare_to(b, agrees_if(!bit), agrees_if(bit), reply),
-        EepromEvent::Cut => Match::Nothing,
-        EepromEvent::Stop => Match::Nothing,
-        EepromEvent::End => Match::Nothing,
+        _ => Match::Nothing,
     }
 }
 
@@ -121,8 +86,15 @@ pub fn compare(event: Event, reply: Reply) -> Match
     ensures { result ≡ compared event reply }
 {
     match event {
-        Event::Flash(e) => see_flash(e, reply),
-        Event::Eeprom(e) => see_eeprom(e, reply),
-        Event::Line(_) => Match::Nothing,
+        Event::Flash(FlashEvent::Byte(_, so)) => compare_to(
+            so,
+            Match::Nothing,
+            Match::Nothing,
+            reply,
+        ),
+        Event::Eeprom(EepromEvent::Byte(b, bit)) => {
+            compare_to(b, agrees_if(!bit), agrees_if(bit), reply)
+        }
+        _ => Match::Nothing,
     }
 }
