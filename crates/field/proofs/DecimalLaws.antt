@@ -14,12 +14,10 @@ use lib.Seq.{drop-cons}
 use borrow.Author.Tests.{lt-ltb, le-ltb, le-leb, leb-true, eq-eqb, ne_eqb, eqb-true, eqb-false}
 use Rattle.law.specs.Choice.{split, lt_or_le}
 use Rattle.law.specs.Words.{pick}
-use Rattle.std.specs.Prelude.{Option, None, Some, Result}
-use Rattle.field.specs.declared.Cursor.{Cursor}
-use Rattle.field.specs.declared.BadField.{BadField}
+use Rattle.std.specs.Prelude.{Option, None, Some}
 use Rattle.field.specs.Ends.{tab_byte, lf_byte}
 use Rattle.field.specs.Decimal.{largest, digits_in, decimal, digits_value, is_decimal}
-use Rattle.field.specs.Readers.{got, bad_field, digit_on, push_of, content_at, ends_here, stopped_at, ReadsDecimal}
+use Rattle.field.specs.Readers.{Read, got, bad_field, digit_on, push_of, content_at, ends_here, stopped_at, ReadsDecimal}
 use Rattle.field.specs.Reads.{Stands}
 use Rattle.field.proofs.FieldLaws.{Plain, plain_append, rest_at, content_ends, content_is, Tests, spells_tests}
 
@@ -146,7 +144,7 @@ low_end : (b : ℕ) (l : List ℕ) → ends_here (b ∷ l) ≡ true → b < 48
 low_end b l e = split (eqb b tab_byte) (λ g. omega (arith, eqb-true b tab_byte g)) (λ g. let h : eqb b lf_byte ≡ true = simp g at e in omega (arith, eqb-true b lf_byte h))
 
 module _ (number : ℕ) where
-  unfoldable pub decimal_from : Option ℕ → ℕ → List ℕ → Result (ℕ × Cursor) BadField
+  unfoldable pub decimal_from : Option ℕ → ℕ → List ℕ → Read ℕ
   decimal_from o at [] = stopped_at number o at []
   decimal_from o at (b ∷ l) = elim (push_of o b) [ Some w ↦ decimal_from (Some w) (at + 1) l | None ↦ stopped_at number o at (b ∷ l) ]
 
@@ -224,8 +222,8 @@ module _ (number : ℕ) where
           let s : Stands text at (decimal z.0) = record { rest = z.3; is = e } in
           (z.0, (z.1, content_is text at (decimal z.0) (plain_decimal z.0) s (ap ends_here (rest_at text (decimal z.0) z.3 at e) ∙ z.6)), s, z.7 ∙ ap (λ (k : List ℕ). got z.0 (at + length k)) z.5)
 
-  pub answers : (text : List ℕ) (at : ℕ) (r : Result (ℕ × Cursor) BadField) → decimal_from None at (drop at text) ≡ r → ReadsDecimal number text at r
-  answers text at r e = subst (λ (z : Result (ℕ × Cursor) BadField). ReadsDecimal number text at z) e (reads_decimal text at)
+  pub answers : (text : List ℕ) (at : ℕ) (r : Read ℕ) → decimal_from None at (drop at text) ≡ r → ReadsDecimal number text at r
+  answers text at r e = subst (λ (z : Read ℕ). ReadsDecimal number text at z) e (reads_decimal text at)
 
   -- ---- a turn of the loop, at a place within the text
   module _ (text : List ℕ) (o : Option ℕ) (at : ℕ) (h : at < length text) where

@@ -12,7 +12,10 @@ use Rattle.field.specs.Digit.{DigitOk, digit_field}
 use Rattle.field.specs.Hex.{hex_field}
 
 -- the answers of a reader: a value and the place after it, that place alone, or the number of the bad field
-abbrev pub got : {T : Type 0} → T → ℕ → Result (T × Cursor) BadField
+abbrev pub Read : Type 0 → Type 0
+Read T = Result (T × Cursor) BadField
+
+abbrev pub got : {T : Type 0} → T → ℕ → Read T
 got x p = Ok (x, record { at = p })
 
 abbrev pub past : ℕ → Result Cursor BadField
@@ -22,10 +25,10 @@ abbrev pub bad_field : {T : Type 0} → ℕ → Result T BadField
 bad_field n = Err (record { 0 = n })
 
 -- A reader of what a field begins with refuses with the field's own number n.
-abbrev pub ReadsHex : ℕ → List ℕ → ℕ → Result (ℕ × Cursor) BadField → Type 0
+abbrev pub ReadsHex : ℕ → List ℕ → ℕ → Read ℕ → Type 0
 ReadsHex n = Reads hex_field (λ x. x < 256) got (bad_field n)
 
-abbrev pub ReadsDigit : ℕ → ℕ → ℕ → List ℕ → ℕ → Result (ℕ × Cursor) BadField → Type 0
+abbrev pub ReadsDigit : ℕ → ℕ → ℕ → List ℕ → ℕ → Read ℕ → Type 0
 ReadsDigit low high n = Reads digit_field (DigitOk low high) got (bad_field n)
 
 abbrev pub ReadsWord : List ℕ → ℕ → List ℕ → ℕ → Result Cursor BadField → Type 0
@@ -36,7 +39,7 @@ unfoldable pub content_at : List ℕ → ℕ → List ℕ
 content_at text at = first_of (fields_of (drop at text))
 
 -- a decimal is read by the field's whole content
-abbrev pub ReadsDecimal : ℕ → List ℕ → ℕ → Result (ℕ × Cursor) BadField → Type 0
+abbrev pub ReadsDecimal : ℕ → List ℕ → ℕ → Read ℕ → Type 0
 ReadsDecimal n text at = Reads decimal (λ x. (x ≤ largest) × (content_at text at ≡ decimal x)) got (bad_field n) text at
 
 -- a content ends here: with a tab, the LF or the text's end
@@ -57,7 +60,7 @@ ReadsEnd e n text at = Reads {A = Unit {0}} (λ _. end_byte e ∷ []) (λ _. Uni
 
 -- ---- the tables
 -- the answer where no digit can be read on from l, of which v was read or nothing yet
-abbrev pub stopped_at : ℕ → Option ℕ → ℕ → List ℕ → Result (ℕ × Cursor) BadField
+abbrev pub stopped_at : ℕ → Option ℕ → ℕ → List ℕ → Read ℕ
 stopped_at n None at l = bad_field n
 stopped_at n (Some v) at l = pick (ends_here l) (got v at) (bad_field n)
 

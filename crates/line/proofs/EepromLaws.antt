@@ -19,7 +19,7 @@ use Rattle.field.specs.Ends.{tab_byte, tab, lf}
 use Rattle.field.specs.Fields.{one_of, same}
 use Rattle.field.specs.Hex.{hex_field}
 use Rattle.field.specs.Digit.{digit_field, DigitOk}
-use Rattle.field.specs.Readers.{content_at, ends_here, end_number}
+use Rattle.field.specs.Readers.{Read, got, bad_field, content_at, ends_here, end_number}
 use Rattle.field.specs.Spelling.{put_all}
 use Rattle.field.proofs.Reading.{Got}
 use Rattle.field.proofs.Answers.{both_same, No, GotWord, NoWord}
@@ -27,7 +27,6 @@ use Rattle.field.proofs.FieldLaws.{Plain, plain_of}
 use Rattle.field.proofs.HexLaws.{unhex, unhex_is}
 use Rattle.field.proofs.DigitLaws.{tests_digit}
 use Rattle.field.proofs.Sequence.{Begins, reads_as, bad_content, tab_refused, tab_then, last_word, not_word, word_begins, one_of_lem, none_of}
-use Rattle.line.specs.declared.events.ReadEvent.{ReadEvent}
 use Rattle.line.specs.ChannelE.{spelled_eeprom, EepromOk}
 use Rattle.line.specs.Places.{is_eeprom_event, after_eeprom}
 use Rattle.line.specs.Readers.{spelled_bit, spelled_data, DataOk, ReadsData, ReadsEeprom, ReadsLast}
@@ -61,24 +60,24 @@ bit_back d o = split (eqb d 1) (λ e. eqb-true d 1 e ∙ ap flag_number (sym e))
     zero k l n = omega arith
 
 module _ {text : List ℕ} {at : ℕ} where
-  pub data_1 : No hex_field (λ n. n < 256) text at → ReadsData text at (ReadEvent.Bad 4)
-  data_1 = two_1 ReadEvent.Bad any_byte (tests_digit 0 1) 4 (λ y. y.0) (λ y. flag_number y.1) data_parts (λ y o. o) (λ y o. bit_ok y.1)
+  pub data_1 : No hex_field (λ n. n < 256) text at → ReadsData text at (bad_field 4)
+  data_1 = two_1 bad_field any_byte (tests_digit 0 1) 4 (λ y. y.0) (λ y. flag_number y.1) data_parts (λ y o. o) (λ y o. bit_ok y.1)
 
   module _ {x p : ℕ} (a : Got hex_field (λ n. n < 256) text at x p) where
-    pub data_2 : NoWord tab text p → ReadsData text at (ReadEvent.Bad (end_number 4 text p))
-    data_2 = two_2 ReadEvent.Bad any_byte (tests_digit 0 1) 4 (λ y. y.0) (λ y. flag_number y.1) data_parts (λ y o. o) (λ y o. bit_ok y.1) a
+    pub data_2 : NoWord tab text p → ReadsData text at (bad_field (end_number 4 text p))
+    data_2 = two_2 bad_field any_byte (tests_digit 0 1) 4 (λ y. y.0) (λ y. flag_number y.1) data_parts (λ y o. o) (λ y o. bit_ok y.1) a
 
     module _ {q : ℕ} (h : GotWord tab text p q) where
-      pub data_3 : No digit_field (DigitOk 0 1) text q → ReadsData text at (ReadEvent.Bad 5)
-      data_3 = two_3 ReadEvent.Bad any_byte (tests_digit 0 1) 4 (λ y. y.0) (λ y. flag_number y.1) data_parts (λ y o. o) (λ y o. bit_ok y.1) a h
+      pub data_3 : No digit_field (DigitOk 0 1) text q → ReadsData text at (bad_field 5)
+      data_3 = two_3 bad_field any_byte (tests_digit 0 1) 4 (λ y. y.0) (λ y. flag_number y.1) data_parts (λ y o. o) (λ y o. bit_ok y.1) a h
 
       module _ {z s : ℕ} (b : Got digit_field (DigitOk 0 1) text q z s) where
-        pub data_4 : NoWord lf text s → ReadsData text at (ReadEvent.Bad (end_number 5 text s))
-        data_4 = two_4 ReadEvent.Bad any_byte (tests_digit 0 1) 4 (λ y. y.0) (λ y. flag_number y.1) data_parts (λ y o. o) (λ y o. bit_ok y.1) a h b
+        pub data_4 : NoWord lf text s → ReadsData text at (bad_field (end_number 5 text s))
+        data_4 = two_4 bad_field any_byte (tests_digit 0 1) 4 (λ y. y.0) (λ y. flag_number y.1) data_parts (λ y o. o) (λ y o. bit_ok y.1) a h b
 
-        pub data_all : {v : ℕ} → GotWord lf text s v → ReadsData text at (ReadEvent.Value (Event.Eeprom (Byte x (eqb z 1))) (record { at = v }))
+        pub data_all : {v : ℕ} → GotWord lf text s v → ReadsData text at (got (Event.Eeprom (Byte x (eqb z 1))) v)
         data_all m =
-            two_all ReadEvent.Bad any_byte (tests_digit 0 1) 4 (λ y. y.0) (λ y. flag_number y.1) data_parts (λ y o. o) (λ y o. bit_ok y.1) a h b m
+            two_all bad_field any_byte (tests_digit 0 1) 4 (λ y. y.0) (λ y. flag_number y.1) data_parts (λ y o. o) (λ y o. bit_ok y.1) a h b m
             (x, eqb z 1) a.ok refl (bit_back z b.ok) (λ y o e f. both_same e (bit_is z y.1 f))
 
 -- ---- the events
@@ -190,10 +189,10 @@ eeprom_longer Stop b u = refl
 eeprom_longer End b u = refl
 
 module _ {text : List ℕ} {at : ℕ} where
-  pub eeprom_none : NoWord word_sta text at → NoWord word_cut text at → NoWord word_sto text at → NoWord word_end text at → NoWord word_b text at → ReadsEeprom text at (ReadEvent.Bad 3)
+  pub eeprom_none : NoWord word_sta text at → NoWord word_cut text at → NoWord word_sto text at → NoWord word_end text at → NoWord word_b text at → ReadsEeprom text at (bad_field 3)
   unfolding is_eeprom_event
   eeprom_none sta cut sto end byte =
-      bad_content ReadEvent.Bad is_eeprom_event (λ w _. after_eeprom w) 3 eeprom_word eeprom_rest eeprom_parts (λ y o. eeprom_plain y) (λ y o. eeprom_allowed y) eeprom_ends
+      bad_content bad_field is_eeprom_event (λ w _. after_eeprom w) 3 eeprom_word eeprom_rest eeprom_parts (λ y o. eeprom_plain y) (λ y o. eeprom_allowed y) eeprom_ends
       (split (is_eeprom_event (content_at text at))
       (λ e. absurd (one_of_lem word_sta _ _ e (not_word sta) (λ e1. one_of_lem word_b _ _ e1 (not_word byte) (λ e2. one_of_lem word_cut _ _ e2 (not_word cut) (λ e3. one_of_lem word_sto _ _ e3 (not_word sto) (λ e4. one_of_lem word_end _ _ e4 (not_word end) (none_of _)))))))
       (λ e. e))
@@ -203,10 +202,10 @@ module _ {text : List ℕ} {at : ℕ} where
   begins y g = word_begins (eeprom_plain y) (eeprom_allowed y) (eeprom_longer y) g
 
   -- an event with no fields of its own
-  module _ {p : ℕ} {r : ReadEvent} where
+  module _ {p : ℕ} {r : Read Event} where
     last : (x : EepromEvent) → x ≡ eeprom_at (eeprom_word x) → (eeprom_word x ≡ word_b → ⊥) → EepromOk x → eeprom_rest x ≡ lf → after_eeprom (eeprom_word x) ≡ [] → GotWord (eeprom_word x) text at p → ReadsLast (Event.Eeprom x) text p r → ReadsEeprom text at r
     last x i n o l d g h =
-        last_word ReadEvent.Bad is_eeprom_event (λ w _. after_eeprom w) 3 eeprom_word eeprom_rest eeprom_parts (λ y _. eeprom_plain y) (λ y _. eeprom_allowed y) eeprom_ends (begins x g) x o refl (λ y q. eeprom_one (eeprom_word x) n y q ∙ sym i) l (λ fs. d) h
+        last_word bad_field is_eeprom_event (λ w _. after_eeprom w) 3 eeprom_word eeprom_rest eeprom_parts (λ y _. eeprom_plain y) (λ y _. eeprom_allowed y) eeprom_ends (begins x g) x o refl (λ y q. eeprom_one (eeprom_word x) n y q ∙ sym i) l (λ fs. d) h
 
     pub eeprom_sta : GotWord word_sta text at p → ReadsLast (Event.Eeprom Start) text p r → ReadsEeprom text at r
     unfolding eeprom_at same
@@ -226,14 +225,14 @@ module _ {text : List ℕ} {at : ℕ} where
 
   -- `b`
   module _ {p : ℕ} (w : GotWord word_b text at p) where
-    pub eeprom_tab : NoWord tab text p → ReadsEeprom text at (ReadEvent.Bad (end_number 3 text p))
+    pub eeprom_tab : NoWord tab text p → ReadsEeprom text at (bad_field (end_number 3 text p))
     eeprom_tab m =
-        tab_refused ReadEvent.Bad is_eeprom_event (λ w _. after_eeprom w) 3 eeprom_word eeprom_rest eeprom_parts (λ y o. eeprom_plain y) (λ y o. eeprom_allowed y) eeprom_ends (begins (Byte 0 false) w) eeprom_tail b_rest m
+        tab_refused bad_field is_eeprom_event (λ w _. after_eeprom w) 3 eeprom_word eeprom_rest eeprom_parts (λ y o. eeprom_plain y) (λ y o. eeprom_allowed y) eeprom_ends (begins (Byte 0 false) w) eeprom_tail b_rest m
 
-    pub eeprom_b : {q : ℕ} {r : ReadEvent} → GotWord tab text p q → ReadsData text q r → ReadsEeprom text at r
+    pub eeprom_b : {q : ℕ} {r : Read Event} → GotWord tab text p q → ReadsData text q r → ReadsEeprom text at r
     unfolding same
     eeprom_b g d =
-        tab_then ReadEvent.Bad is_eeprom_event (λ w _. after_eeprom w) 3 eeprom_word eeprom_rest eeprom_parts (λ y o. eeprom_plain y) (λ y o. eeprom_allowed y) eeprom_ends (begins (Byte 0 false) w) eeprom_tail b_rest g
+        tab_then bad_field is_eeprom_event (λ w _. after_eeprom w) 3 eeprom_word eeprom_rest eeprom_parts (λ y o. eeprom_plain y) (λ y o. eeprom_allowed y) eeprom_ends (begins (Byte 0 false) w) eeprom_tail b_rest g
         (reads_as (λ x. Byte x.0 x.1) b_fields (λ x o. (o, refl)) (λ x. refl) d)
 
 -- ---- a byte and its acknowledge bit are put

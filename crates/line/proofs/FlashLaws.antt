@@ -16,14 +16,13 @@ use Rattle.field.specs.declared.spelling.Spelling.{Spelling}
 use Rattle.field.specs.Ends.{tab_byte, tab, lf}
 use Rattle.field.specs.Fields.{one_of, same}
 use Rattle.field.specs.Hex.{hex_field}
-use Rattle.field.specs.Readers.{content_at, ends_here, end_number}
+use Rattle.field.specs.Readers.{Read, got, bad_field, content_at, ends_here, end_number}
 use Rattle.field.specs.Spelling.{put_all}
 use Rattle.field.proofs.Reading.{Got}
 use Rattle.field.proofs.Answers.{both_same, No, GotWord, NoWord}
 use Rattle.field.proofs.FieldLaws.{Plain, plain_of, Tests}
 use Rattle.field.proofs.HexLaws.{unhex, unhex_is, tests_byte}
 use Rattle.field.proofs.Sequence.{Begins, reads_as, bad_content, tab_refused, tab_then, last_word, not_word, word_begins, one_of_lem, none_of}
-use Rattle.line.specs.declared.events.ReadEvent.{ReadEvent}
 use Rattle.line.specs.ChannelF.{spelled_flash, FlashOk}
 use Rattle.line.specs.Places.{is_byte, is_flash_event, after_flash}
 use Rattle.line.specs.Readers.{spelled_pair, PairOk, ReadsPair, ReadsFlash, ReadsLast}
@@ -40,23 +39,23 @@ unfolding spelled_pair
 pair_parts y = refl
 
 module _ {text : List ℕ} {at : ℕ} where
-  pub pair_1 : No hex_field (λ n. n < 256) text at → ReadsPair text at (ReadEvent.Bad 4)
-  pair_1 = two_1 ReadEvent.Bad any_byte any_byte 4 (λ y. y.0) (λ y. y.1) pair_parts (λ y o. o.0) (λ y o. o.1)
+  pub pair_1 : No hex_field (λ n. n < 256) text at → ReadsPair text at (bad_field 4)
+  pair_1 = two_1 bad_field any_byte any_byte 4 (λ y. y.0) (λ y. y.1) pair_parts (λ y o. o.0) (λ y o. o.1)
 
   module _ {x p : ℕ} (a : Got hex_field (λ n. n < 256) text at x p) where
-    pub pair_2 : NoWord tab text p → ReadsPair text at (ReadEvent.Bad (end_number 4 text p))
-    pair_2 = two_2 ReadEvent.Bad any_byte any_byte 4 (λ y. y.0) (λ y. y.1) pair_parts (λ y o. o.0) (λ y o. o.1) a
+    pub pair_2 : NoWord tab text p → ReadsPair text at (bad_field (end_number 4 text p))
+    pair_2 = two_2 bad_field any_byte any_byte 4 (λ y. y.0) (λ y. y.1) pair_parts (λ y o. o.0) (λ y o. o.1) a
 
     module _ {q : ℕ} (h : GotWord tab text p q) where
-      pub pair_3 : No hex_field (λ n. n < 256) text q → ReadsPair text at (ReadEvent.Bad 5)
-      pair_3 = two_3 ReadEvent.Bad any_byte any_byte 4 (λ y. y.0) (λ y. y.1) pair_parts (λ y o. o.0) (λ y o. o.1) a h
+      pub pair_3 : No hex_field (λ n. n < 256) text q → ReadsPair text at (bad_field 5)
+      pair_3 = two_3 bad_field any_byte any_byte 4 (λ y. y.0) (λ y. y.1) pair_parts (λ y o. o.0) (λ y o. o.1) a h
 
       module _ {z s : ℕ} (b : Got hex_field (λ n. n < 256) text q z s) where
-        pub pair_4 : NoWord lf text s → ReadsPair text at (ReadEvent.Bad (end_number 5 text s))
-        pair_4 = two_4 ReadEvent.Bad any_byte any_byte 4 (λ y. y.0) (λ y. y.1) pair_parts (λ y o. o.0) (λ y o. o.1) a h b
+        pub pair_4 : NoWord lf text s → ReadsPair text at (bad_field (end_number 5 text s))
+        pair_4 = two_4 bad_field any_byte any_byte 4 (λ y. y.0) (λ y. y.1) pair_parts (λ y o. o.0) (λ y o. o.1) a h b
 
-        pub pair_all : {v : ℕ} → GotWord lf text s v → ReadsPair text at (ReadEvent.Value (Event.Flash (Byte x z)) (record { at = v }))
-        pair_all m = two_all ReadEvent.Bad any_byte any_byte 4 (λ y. y.0) (λ y. y.1) pair_parts (λ y o. o.0) (λ y o. o.1) a h b m (x, z) (a.ok, b.ok) refl refl (λ y o e f. both_same e f)
+        pub pair_all : {v : ℕ} → GotWord lf text s v → ReadsPair text at (got (Event.Flash (Byte x z)) v)
+        pair_all m = two_all bad_field any_byte any_byte 4 (λ y. y.0) (λ y. y.1) pair_parts (λ y o. o.0) (λ y o. o.1) a h b m (x, z) (a.ok, b.ok) refl refl (λ y o e f. both_same e f)
 
 -- ---- the events
 -- the event that a line spells, found from its bytes
@@ -166,10 +165,10 @@ flash_longer Deselect b u = refl
 flash_longer End b u = refl
 
 module _ {text : List ℕ} {at : ℕ} where
-  pub flash_none : NoWord word_sel text at → NoWord word_cut text at → NoWord word_des text at → NoWord word_end text at → NoWord word_x text at → ReadsFlash text at (ReadEvent.Bad 3)
+  pub flash_none : NoWord word_sel text at → NoWord word_cut text at → NoWord word_des text at → NoWord word_end text at → NoWord word_x text at → ReadsFlash text at (bad_field 3)
   unfolding is_flash_event
   flash_none sel cut des end byte =
-      bad_content ReadEvent.Bad is_flash_event (λ w _. after_flash w) 3 flash_word flash_rest flash_parts (λ y o. flash_plain y) (λ y o. flash_allowed y) flash_ends_lem
+      bad_content bad_field is_flash_event (λ w _. after_flash w) 3 flash_word flash_rest flash_parts (λ y o. flash_plain y) (λ y o. flash_allowed y) flash_ends_lem
       (split (is_flash_event (content_at text at))
       (λ e. absurd (one_of_lem word_sel _ _ e (not_word sel) (λ e1. one_of_lem word_x _ _ e1 (not_word byte) (λ e2. one_of_lem word_cut _ _ e2 (not_word cut) (λ e3. one_of_lem word_des _ _ e3 (not_word des) (λ e4. one_of_lem word_end _ _ e4 (not_word end) (none_of _)))))))
       (λ e. e))
@@ -179,10 +178,10 @@ module _ {text : List ℕ} {at : ℕ} where
   begins y g = word_begins (flash_plain y) (flash_allowed y) (flash_longer y) g
 
   -- an event with no fields of its own
-  module _ {p : ℕ} {r : ReadEvent} where
+  module _ {p : ℕ} {r : Read Event} where
     last : (x : FlashEvent) → x ≡ flash_at (flash_word x) → (flash_word x ≡ word_x → ⊥) → FlashOk x → flash_rest x ≡ lf → after_flash (flash_word x) ≡ [] → GotWord (flash_word x) text at p → ReadsLast (Event.Flash x) text p r → ReadsFlash text at r
     last x i n o l d g h =
-        last_word ReadEvent.Bad is_flash_event (λ w _. after_flash w) 3 flash_word flash_rest flash_parts (λ y _. flash_plain y) (λ y _. flash_allowed y) flash_ends_lem (begins x g) x o refl (λ y q. flash_one (flash_word x) n y q ∙ sym i) l (λ fs. d) h
+        last_word bad_field is_flash_event (λ w _. after_flash w) 3 flash_word flash_rest flash_parts (λ y _. flash_plain y) (λ y _. flash_allowed y) flash_ends_lem (begins x g) x o refl (λ y q. flash_one (flash_word x) n y q ∙ sym i) l (λ fs. d) h
 
     pub flash_sel : GotWord word_sel text at p → ReadsLast (Event.Flash Select) text p r → ReadsFlash text at r
     unfolding flash_at same
@@ -202,14 +201,14 @@ module _ {text : List ℕ} {at : ℕ} where
 
   -- `x`
   module _ {p : ℕ} (w : GotWord word_x text at p) where
-    pub flash_tab : NoWord tab text p → ReadsFlash text at (ReadEvent.Bad (end_number 3 text p))
+    pub flash_tab : NoWord tab text p → ReadsFlash text at (bad_field (end_number 3 text p))
     flash_tab m =
-        tab_refused ReadEvent.Bad is_flash_event (λ w _. after_flash w) 3 flash_word flash_rest flash_parts (λ y o. flash_plain y) (λ y o. flash_allowed y) flash_ends_lem (begins (Byte 0 0) w) flash_tail x_rest m
+        tab_refused bad_field is_flash_event (λ w _. after_flash w) 3 flash_word flash_rest flash_parts (λ y o. flash_plain y) (λ y o. flash_allowed y) flash_ends_lem (begins (Byte 0 0) w) flash_tail x_rest m
 
-    pub flash_x : {q : ℕ} {r : ReadEvent} → GotWord tab text p q → ReadsPair text q r → ReadsFlash text at r
+    pub flash_x : {q : ℕ} {r : Read Event} → GotWord tab text p q → ReadsPair text q r → ReadsFlash text at r
     unfolding same
     flash_x g d =
-        tab_then ReadEvent.Bad is_flash_event (λ w _. after_flash w) 3 flash_word flash_rest flash_parts (λ y o. flash_plain y) (λ y o. flash_allowed y) flash_ends_lem (begins (Byte 0 0) w) flash_tail x_rest g
+        tab_then bad_field is_flash_event (λ w _. after_flash w) 3 flash_word flash_rest flash_parts (λ y o. flash_plain y) (λ y o. flash_allowed y) flash_ends_lem (begins (Byte 0 0) w) flash_tail x_rest g
         (reads_as (λ x. Byte x.0 x.1) x_bytes (λ x o. (o, refl)) (λ x. refl) d)
 
 -- ---- a byte each way is put

@@ -1,5 +1,4 @@
 -- Laws of each kind of line, of what is put together and written out, and what follows of them.
-pub mod Apart
 pub mod Put
 pub mod Two
 pub mod FlashLaws

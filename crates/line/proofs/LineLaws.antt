@@ -12,11 +12,10 @@ use Rattle.record.specs.declared.LineEvent.{LineEvent}
 use Rattle.record.specs.declared.LineEvent.TheVariants.{SupplyOn, SupplyOff, LockOn, LockOff}
 use Rattle.field.specs.Ends.{lf}
 use Rattle.field.specs.Fields.{one_of, same}
-use Rattle.field.specs.Readers.{content_at}
+use Rattle.field.specs.Readers.{Read, bad_field, content_at}
 use Rattle.field.proofs.Answers.{GotWord, NoWord}
 use Rattle.field.proofs.FieldLaws.{Plain, plain_of}
 use Rattle.field.proofs.Sequence.{bad_content, last_word, not_word, word_begins, one_of_lem, none_of}
-use Rattle.line.specs.declared.events.ReadEvent.{ReadEvent}
 use Rattle.line.specs.ChannelL.{spelled_line}
 use Rattle.line.specs.Places.{is_line_event}
 use Rattle.line.specs.Readers.{ReadsLine, ReadsLast}
@@ -76,15 +75,15 @@ line_longer LockOn b u = refl
 line_longer LockOff b u = refl
 
 module _ {text : List ℕ} {at : ℕ} where
-  pub line_none : NoWord word_on text at → NoWord word_off text at → NoWord word_lock text at → NoWord word_free text at → ReadsLine text at (ReadEvent.Bad 3)
+  pub line_none : NoWord word_on text at → NoWord word_off text at → NoWord word_lock text at → NoWord word_free text at → ReadsLine text at (bad_field 3)
   unfolding is_line_event
   line_none on off lock free =
-      bad_content ReadEvent.Bad is_line_event (λ _ _. []) 3 line_word (λ _. lf) line_parts (λ y o. line_plain y) (λ y o. line_allowed y) (λ y l. refl)
+      bad_content bad_field is_line_event (λ _ _. []) 3 line_word (λ _. lf) line_parts (λ y o. line_plain y) (λ y o. line_allowed y) (λ y l. refl)
       (split (is_line_event (content_at text at))
       (λ e. absurd (one_of_lem word_on _ _ e (not_word on) (λ e1. one_of_lem word_off _ _ e1 (not_word off) (λ e2. one_of_lem word_lock _ _ e2 (not_word lock) (λ e3. one_of_lem word_free _ _ e3 (not_word free) (none_of _))))))
       (λ e. e))
 
-  pub line_last : {p : ℕ} {r : ReadEvent} (x : LineEvent) → GotWord (line_word x) text at p → ReadsLast (Event.Line x) text p r → ReadsLine text at r
+  pub line_last : {p : ℕ} {r : Read Event} (x : LineEvent) → GotWord (line_word x) text at p → ReadsLast (Event.Line x) text p r → ReadsLine text at r
   line_last x g h =
-      last_word ReadEvent.Bad is_line_event (λ _ _. []) 3 line_word (λ _. lf) line_parts (λ y _. line_plain y) (λ y _. line_allowed y) (λ y l. refl) (word_begins (line_plain x) (line_allowed x) (line_longer x) g) x tt refl
+      last_word bad_field is_line_event (λ _ _. []) 3 line_word (λ _. lf) line_parts (λ y _. line_plain y) (λ y _. line_allowed y) (λ y l. refl) (word_begins (line_plain x) (line_allowed x) (line_longer x) g) x tt refl
       (λ y o. line_by_lem y ∙ ap line_at (sym o.1) ∙ sym (line_by_lem x)) refl (λ fs. refl) h

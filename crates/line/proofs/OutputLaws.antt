@@ -22,13 +22,14 @@ use Rattle.field.specs.Digit.{digit_field}
 use Rattle.field.specs.Spelling.{no_bytes, put_all}
 use Rattle.field.specs.Room.{room}
 use Rattle.field.proofs.SpellingLaws.{Holds, holds_all, digits_count}
-use Rattle.line.specs.declared.output.Written.{Written}
 use Rattle.line.specs.ChannelF.{spelled_flash}
 use Rattle.line.specs.ChannelE.{spelled_eeprom}
 use Rattle.line.specs.ChannelL.{spelled_line}
 use Rattle.line.specs.Records.{spelled_event, spelled}
 use Rattle.line.specs.Boards.{spelled_board, spelled_places, BoardOk, WroteBoard}
 use Rattle.line.specs.Output.{on_paper, Wrote}
+use Rattle.std.specs.Prelude.{Result, Ok, Err}
+use Rattle.line.specs.declared.output.WriteError.{WriteError}
 
 -- ---- copying
 -- a turn of the loop
@@ -40,22 +41,22 @@ copy_step d s j hd hs =
     ∙ sym (append_snoc (take j s) (get_or s j 0) (drop (suc j) d))
     ∙ ap (λ (r : List ℕ). r ++ drop (suc j) d) (sym (take-suc s j 0 hs)))
 
-pub wrote_not : (w old : List ℕ) → length old < length w → Wrote w old old Written.TooShort
+pub wrote_not : (w old : List ℕ) → length old < length w → Wrote w old old (Err WriteError.TooShort)
 wrote_not w old h = record { answer = simp (lt-ltb (length old) (length w) h); content = simp (lt-ltb (length old) (length w) h) }
 
-pub wrote_all : (w old new : List ℕ) (n : ℕ) → n ≡ length w → n ≤ length old → new ≡ w ++ drop n old → Wrote w old new (Written.Length n)
+pub wrote_all : (w old new : List ℕ) (n : ℕ) → n ≡ length w → n ≤ length old → new ≡ w ++ drop n old → Wrote w old new (Ok n)
 wrote_all w old new n e h p = record {
-  answer = simp (le-ltb (length old) (length w) (omega arith)) (ap (λ (k : ℕ). on_paper (Written.Length k)) e);
+  answer = simp (le-ltb (length old) (length w) (omega arith)) (ap (λ (k : ℕ). on_paper (Ok k)) e);
   content = simp (le-ltb (length old) (length w) (omega arith)) (p ∙ ap (λ (k : ℕ). w ++ drop k old) e);
 }
 
-pub wrote_as : {u v old new : List ℕ} {r : Written} → u ≡ v → Wrote u old new r → Wrote v old new r
+pub wrote_as : {u v old new : List ℕ} {r : Result ℕ WriteError} → u ≡ v → Wrote u old new r → Wrote v old new r
 wrote_as {u} {v} {old} {new} {r} e p = subst (λ (l : List ℕ). Wrote l old new r) e p
 
-pub wrote_board_not : (b : Board) (old : List ℕ) → (BoardOk b → ⊥) → WroteBoard b old old Written.OutOfRange
+pub wrote_board_not : (b : Board) (old : List ℕ) → (BoardOk b → ⊥) → WroteBoard b old old (Err WriteError.OutOfRange)
 wrote_board_not b old n = record { out_of_range = λ m. (refl, refl); in_range = λ o. absurd (n o) }
 
-pub wrote_board : {b : Board} {old new : List ℕ} {r : Written} → BoardOk b → Wrote (spelled_board b) old new r → WroteBoard b old new r
+pub wrote_board : {b : Board} {old new : List ℕ} {r : Result ℕ WriteError} → BoardOk b → Wrote (spelled_board b) old new r → WroteBoard b old new r
 wrote_board o w = record { out_of_range = λ n. absurd (n o); in_range = λ p. w }
 
 -- ---- how long lines are

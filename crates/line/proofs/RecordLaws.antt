@@ -18,16 +18,14 @@ use Rattle.field.specs.declared.spelling.Spelling.{Spelling}
 use Rattle.field.specs.Decimal.{largest, decimal, is_decimal}
 use Rattle.field.specs.Ends.{tab}
 use Rattle.field.specs.Fields.{fields_of, first_bad, one_of, same}
-use Rattle.field.specs.Readers.{content_at, end_number}
+use Rattle.field.specs.Readers.{Read, got, bad_field, content_at, end_number}
 use Rattle.field.specs.Reads.{Stands, Reads}
 use Rattle.field.specs.Spelling.{no_bytes, put_all}
-use Rattle.field.proofs.Reading.{Got, none, one, as_told}
+use Rattle.field.proofs.Reading.{Got, none, one}
 use Rattle.field.proofs.Answers.{No, GotField, GotWord, NoWord}
 use Rattle.field.proofs.FieldLaws.{Plain, plain_of, content_stands}
 use Rattle.field.proofs.DecimalLaws.{plain_decimal, tests_decimal}
 use Rattle.field.proofs.Sequence.{Begins, reads_as, content_of, bad_content, tab_refused, tab_then, not_allowed, field_begins, not_word, word_begins, one_of_lem, none_of}
-use Rattle.line.specs.declared.events.ReadEvent.{ReadEvent}
-use Rattle.line.specs.declared.records.ReadRecord.{ReadRecord}
 use Rattle.line.specs.ChannelF.{spelled_flash, FlashOk}
 use Rattle.line.specs.ChannelE.{spelled_eeprom, EepromOk}
 use Rattle.line.specs.ChannelL.{spelled_line}
@@ -104,10 +102,10 @@ channel_longer (Eeprom e) b u = refl
 channel_longer (Line e) b u = refl
 
 module _ {text : List ℕ} {at : ℕ} where
-  pub event_none : NoWord channel_f text at → NoWord channel_e text at → NoWord channel_l text at → ReadsEvent text at (ReadEvent.Bad 2)
+  pub event_none : NoWord channel_f text at → NoWord channel_e text at → NoWord channel_l text at → ReadsEvent text at (bad_field 2)
   unfolding is_channel
   event_none f e l =
-      bad_content ReadEvent.Bad is_channel after_channel 2 channel_word (λ y. tab ++ event_tail y) event_parts (λ y o. channel_plain y) (λ y o. channel_allowed y) (λ y l. refl)
+      bad_content bad_field is_channel after_channel 2 channel_word (λ y. tab ++ event_tail y) event_parts (λ y o. channel_plain y) (λ y o. channel_allowed y) (λ y l. refl)
       (split (is_channel (content_at text at)) (λ z. absurd (one_of_lem channel_f _ _ z (not_word f) (λ z1. one_of_lem channel_e _ _ z1 (not_word e) (λ z2. one_of_lem channel_l _ _ z2 (not_word l) (none_of _))))) (λ z. z))
 
   -- the field begins with the channel of y, of any event
@@ -115,16 +113,16 @@ module _ {text : List ℕ} {at : ℕ} where
   begins y g = word_begins (channel_plain y) (channel_allowed y) (channel_longer y) g
 
   -- the channel's tab is missing
-  pub event_tab : {p : ℕ} (y : Event) → GotWord (channel_word y) text at p → NoWord tab text p → ReadsEvent text at (ReadEvent.Bad (end_number 2 text p))
-  event_tab y g m = tab_refused ReadEvent.Bad is_channel after_channel 2 channel_word (λ y. tab ++ event_tail y) event_parts (λ y o. channel_plain y) (λ y o. channel_allowed y) (λ y l. refl) (begins y g) event_tail (λ y o. refl) m
+  pub event_tab : {p : ℕ} (y : Event) → GotWord (channel_word y) text at p → NoWord tab text p → ReadsEvent text at (bad_field (end_number 2 text p))
+  event_tab y g m = tab_refused bad_field is_channel after_channel 2 channel_word (λ y. tab ++ event_tail y) event_parts (λ y o. channel_plain y) (λ y o. channel_allowed y) (λ y l. refl) (begins y g) event_tail (λ y o. refl) m
 
   -- it is there
-  on_event : {p q : ℕ} {r : ReadEvent} (y : Event) → GotWord (channel_word y) text at p → GotWord tab text p q
-      → Reads event_tail (λ x. EventOk x × (channel_word y ≡ channel_word x)) (λ x v. ReadEvent.Value x (record { at = v })) (ReadEvent.Bad (first_bad (after_channel (channel_word y) (fields_of (drop q text))) 3 (fields_of (drop q text)))) text q r
+  on_event : {p q : ℕ} {r : Read Event} (y : Event) → GotWord (channel_word y) text at p → GotWord tab text p q
+      → Reads event_tail (λ x. EventOk x × (channel_word y ≡ channel_word x)) got (bad_field (first_bad (after_channel (channel_word y) (fields_of (drop q text))) 3 (fields_of (drop q text)))) text q r
       → ReadsEvent text at r
-  on_event y g h d = tab_then ReadEvent.Bad is_channel after_channel 2 channel_word (λ y. tab ++ event_tail y) event_parts (λ y o. channel_plain y) (λ y o. channel_allowed y) (λ y l. refl) (begins y g) event_tail (λ y o. refl) h d
+  on_event y g h d = tab_then bad_field is_channel after_channel 2 channel_word (λ y. tab ++ event_tail y) event_parts (λ y o. channel_plain y) (λ y o. channel_allowed y) (λ y l. refl) (begins y g) event_tail (λ y o. refl) h d
 
-  module _ {p q : ℕ} {r : ReadEvent} where
+  module _ {p q : ℕ} {r : Read Event} where
     pub event_flash : GotWord channel_f text at p → GotWord tab text p q → ReadsFlash text q r → ReadsEvent text at r
     unfolding same
     event_flash g h d = on_event (Flash FlashEvent.End) g h (reads_as Flash of_flash_lem (λ x o. (o, refl)) (λ x. refl) d)
@@ -147,31 +145,31 @@ pub stamp_content : {text : List ℕ} {at : ℕ} (r : Record) → Stands text at
 stamp_content r s = content_of (λ y. decimal y.stamp) (λ y. tab ++ spelled_event y.event) record_parts (λ y l. refl) r (plain_decimal r.stamp) s
 
 module _ {text : List ℕ} {at : ℕ} where
-  pub record_1 : ((n : ℕ) → (n ≤ largest) × (content_at text at ≡ decimal n) → Stands text at (decimal n) → ⊥) → ReadsRecord text at (ReadRecord.Bad 1)
+  pub record_1 : ((n : ℕ) → (n ≤ largest) × (content_at text at ≡ decimal n) → Stands text at (decimal n) → ⊥) → ReadsRecord text at (bad_field 1)
   unfolding first_bad_field
   record_1 m =
-      bad_content ReadRecord.Bad is_decimal (λ _ fs. event_places fs) 1 (λ y. decimal y.stamp) (λ y. tab ++ spelled_event y.event) record_parts
+      bad_content bad_field is_decimal (λ _ fs. event_places fs) 1 (λ y. decimal y.stamp) (λ y. tab ++ spelled_event y.event) record_parts
       (λ y o. tests_decimal.plain y.stamp o.0) (λ y o. tests_decimal.yes y.stamp o.0) (λ y l. refl) (not_allowed tests_decimal (content_at text at) (λ n o e. m n (o, e) (content_stands text at (decimal n) e)))
 
   module _ {n p : ℕ} (a : GotField decimal (λ k. k ≤ largest) text at n p) where
-    pub record_2 : NoWord tab text p → ReadsRecord text at (ReadRecord.Bad (end_number 1 text p))
+    pub record_2 : NoWord tab text p → ReadsRecord text at (bad_field (end_number 1 text p))
     unfolding first_bad_field
     record_2 m =
-        tab_refused ReadRecord.Bad is_decimal (λ _ fs. event_places fs) 1 (λ y. decimal y.stamp) (λ y. tab ++ spelled_event y.event) record_parts
+        tab_refused bad_field is_decimal (λ _ fs. event_places fs) 1 (λ y. decimal y.stamp) (λ y. tab ++ spelled_event y.event) record_parts
         (λ y o. tests_decimal.plain y.stamp o.0) (λ y o. tests_decimal.yes y.stamp o.0) (λ y l. refl) (field_begins tests_decimal a) (λ y. spelled_event y.event) (λ y o. refl) m
 
     module _ {q : ℕ} (h : GotWord tab text p q) where
-      on : {r : ReadRecord} → Reads (λ (y : Record). spelled_event y.event) (λ y. ((y.stamp ≤ largest) × EventOk y.event) × (decimal n ≡ decimal y.stamp)) (λ y v. ReadRecord.Value y (record { at = v })) (ReadRecord.Bad (bad_from event_places 2 (drop q text))) text q r
+      on : {r : Read Record} → Reads (λ (y : Record). spelled_event y.event) (λ y. ((y.stamp ≤ largest) × EventOk y.event) × (decimal n ≡ decimal y.stamp)) got (bad_field (bad_from event_places 2 (drop q text))) text q r
           → ReadsRecord text at r
       unfolding first_bad_field
       on d =
-          tab_then ReadRecord.Bad is_decimal (λ _ fs. event_places fs) 1 (λ y. decimal y.stamp) (λ y. tab ++ spelled_event y.event) record_parts
+          tab_then bad_field is_decimal (λ _ fs. event_places fs) 1 (λ y. decimal y.stamp) (λ y. tab ++ spelled_event y.event) record_parts
           (λ y o. tests_decimal.plain y.stamp o.0) (λ y o. tests_decimal.yes y.stamp o.0) (λ y l. refl) (field_begins tests_decimal a) (λ y. spelled_event y.event) (λ y o. refl) h d
 
-      pub record_3 : {k : ℕ} → k ≡ bad_from event_places 2 (drop q text) → No spelled_event EventOk text q → ReadsRecord text at (ReadRecord.Bad k)
-      record_3 e m = as_told (ap ReadRecord.Bad e) (on (none (λ y o s. m y.event o.0.1 s)))
+      pub record_3 : No spelled_event EventOk text q → ReadsRecord text at (bad_field (bad_from event_places 2 (drop q text)))
+      record_3 m = on (none (λ y o s. m y.event o.0.1 s))
 
-      pub record_all : {e : Event} {v : ℕ} → Got spelled_event EventOk text q e v → ReadsRecord text at (ReadRecord.Value (record { stamp = n; event = e }) (record { at = v }))
+      pub record_all : {e : Event} {v : ℕ} → Got spelled_event EventOk text q e v → ReadsRecord text at (got (record { stamp = n; event = e }) v)
       record_all {e} {v} g =
           on (one (record { stamp = n; event = e }) v ((a.ok.0, g.ok), refl) g.stands g.next
           (λ y o s. λ i. record { stamp = stamps y.stamp o.0.0 o.1 i; event = g.only y.event o.0.1 s i }))

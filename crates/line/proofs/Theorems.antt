@@ -23,20 +23,20 @@ use Rattle.field.proofs.Reading.{by_inverse, determined}
 use Rattle.field.proofs.FieldLaws.{fields_plain}
 use Rattle.field.proofs.DecimalLaws.{plain_decimal, value_decimal}
 use Rattle.field.proofs.HexLaws.{unhex, unhex_is}
-use Rattle.line.specs.declared.records.ReadRecord.{ReadRecord}
-use Rattle.line.specs.declared.boards.ReadBoard.{ReadBoard}
-use Rattle.line.specs.declared.output.Written.{Written}
 use Rattle.line.specs.Output.{Wrote}
 use Rattle.line.specs.Records.{spelled_event, spelled, RecordOk, ReadsRecord, record_answer}
 use Rattle.line.specs.Boards.{spelled_board, spelled_places, BoardOk, ReadsBoard, WroteBoard, board_answer}
-use Rattle.line.proofs.Apart.{tells_record, tells_board}
+use Rattle.field.proofs.Answers.{tells_got}
 use Rattle.line.proofs.RecordLaws.{event_at, event_law}
 use Rattle.line.proofs.Whole.{paper_one, wrote_determined, spelled_if_accepted, accepted_if_spelled, reads_back, same_bytes}
+use Rattle.field.specs.Readers.{Read, got}
+use Rattle.std.specs.Prelude.{Result, Ok}
+use Rattle.line.specs.declared.output.WriteError.{WriteError}
 
 -- ---- records
 -- any two answers that the promise of `read_record` admits are equal
-pub record_determined : (text : List ℕ) (at : ℕ) (r r' : ReadRecord) → ReadsRecord text at r → ReadsRecord text at r' → r ≡ r'
-record_determined text at = determined tells_record
+pub record_determined : (text : List ℕ) (at : ℕ) (r r' : Read Record) → ReadsRecord text at r → ReadsRecord text at r' → r ≡ r'
+record_determined text at = determined tells_got
 
 -- the record that a line spells, found from its bytes
 unfoldable pub record_at : List ℕ → Record
@@ -73,32 +73,32 @@ pub one_record : (r r' : Record) (rest rest' : List ℕ) → RecordOk r → Reco
 one_record r r' rest rest' o o' e = record_same (spelled r ++ rest) 0 r r' o o' (record { rest = rest; is = refl }) (record { rest = rest'; is = e })
 
 -- a line is accepted as r exactly when it is r's spelling
-module _ (line : List ℕ) (a : ReadRecord) (r : Record) (d : ReadsRecord line 0 a) where
-  pub record_spelled : a ≡ ReadRecord.Value r (record { at = length line }) → line ≡ spelled r
-  record_spelled e = spelled_if_accepted tells_record line a r d e
+module _ (line : List ℕ) (a : Read Record) (r : Record) (d : ReadsRecord line 0 a) where
+  pub record_spelled : a ≡ got r (length line) → line ≡ spelled r
+  record_spelled e = spelled_if_accepted tells_got line a r d e
 
-  pub record_accepted : RecordOk r → line ≡ spelled r → a ≡ ReadRecord.Value r (record { at = length line })
-  record_accepted o e = accepted_if_spelled tells_record line a r o d e
+  pub record_accepted : RecordOk r → line ≡ spelled r → a ≡ got r (length line)
+  record_accepted o e = accepted_if_spelled tells_got line a r o d e
 
 -- a record that was written reads back as itself
-pub record_reads_back : (r : Record) (old new : List ℕ) (n : ℕ) (a : ReadRecord) → RecordOk r → Wrote (spelled r) old new (Written.Length n) → ReadsRecord new 0 a → a ≡ ReadRecord.Value r (record { at = n })
-record_reads_back r old new n a o w d = reads_back tells_record r old new n a o w d
+pub record_reads_back : (r : Record) (old new : List ℕ) (n : ℕ) (a : Read Record) → RecordOk r → Wrote (spelled r) old new (Ok n) → ReadsRecord new 0 a → a ≡ got r n
+record_reads_back r old new n a o w d = reads_back tells_got r old new n a o w d
 
 -- a record's line that was read and then written gives the same bytes
-pub record_same_bytes : (line old new : List ℕ) (a : ReadRecord) (r : Record) (w : Written) → ReadsRecord line 0 a → a ≡ ReadRecord.Value r (record { at = length line })
+pub record_same_bytes : (line old new : List ℕ) (a : Read Record) (r : Record) (w : Result ℕ WriteError) → ReadsRecord line 0 a → a ≡ got r (length line)
     → Wrote (spelled r) old new w → length line ≤ length old → new ≡ line ++ drop (length line) old
-record_same_bytes line old new a r w d e p h = same_bytes tells_record line old new a r w d e p h
+record_same_bytes line old new a r w d e p h = same_bytes tells_got line old new a r w d e p h
 
 -- by the paper's numbers: 3 exactly where no record's line stands
-pub record_three : (text : List ℕ) (at : ℕ) (a : ReadRecord) → ReadsRecord text at a → (answer_number (record_answer a) ≡ 3) ↔ ((r : Record) → RecordOk r → Stands text at (spelled r) → ⊥)
+pub record_three : (text : List ℕ) (at : ℕ) (a : Read Record) → ReadsRecord text at a → (answer_number (record_answer a) ≡ 3) ↔ ((r : Record) → RecordOk r → Stands text at (spelled r) → ⊥)
 record_three text at a d = (
-  (λ h r o s. let e = sym h ∙ ap (λ (x : ReadRecord). answer_number (record_answer x)) (d.found r o s) in omega arith),
-  λ none. ⊎_elim (λ e. ap (λ (x : ReadRecord). answer_number (record_answer x)) e) (λ z. absurd (none z.0 z.1 z.2)) d.only,
+  (λ h r o s. let e = sym h ∙ ap (λ (x : Read Record). answer_number (record_answer x)) (d.found r o s) in omega arith),
+  λ none. ⊎_elim (λ e. ap (λ (x : Read Record). answer_number (record_answer x)) e) (λ z. absurd (none z.0 z.1 z.2)) d.only,
 )
 
 -- ---- boards
-pub board_determined : (text : List ℕ) (at : ℕ) (r r' : ReadBoard) → ReadsBoard text at r → ReadsBoard text at r' → r ≡ r'
-board_determined text at = determined tells_board
+pub board_determined : (text : List ℕ) (at : ℕ) (r r' : Read Board) → ReadsBoard text at r → ReadsBoard text at r' → r ≡ r'
+board_determined text at = determined tells_got
 
 -- the board that a line spells, found from its bytes
 pub board_at : List ℕ → Board
@@ -114,20 +114,20 @@ board_same text at b b' o o' s s' = by_inverse spelled_board BoardOk board_at bo
 pub one_board : (b b' : Board) (rest rest' : List ℕ) → BoardOk b → BoardOk b' → spelled_board b ++ rest ≡ spelled_board b' ++ rest' → b ≡ b'
 one_board b b' rest rest' o o' e = board_same (spelled_board b ++ rest) 0 b b' o o' (record { rest = rest; is = refl }) (record { rest = rest'; is = e })
 
-module _ (line : List ℕ) (a : ReadBoard) (b : Board) (d : ReadsBoard line 0 a) where
-  pub board_spelled : a ≡ ReadBoard.Value b (record { at = length line }) → line ≡ spelled_board b
-  board_spelled e = spelled_if_accepted tells_board line a b d e
+module _ (line : List ℕ) (a : Read Board) (b : Board) (d : ReadsBoard line 0 a) where
+  pub board_spelled : a ≡ got b (length line) → line ≡ spelled_board b
+  board_spelled e = spelled_if_accepted tells_got line a b d e
 
-  pub board_accepted : BoardOk b → line ≡ spelled_board b → a ≡ ReadBoard.Value b (record { at = length line })
-  board_accepted o e = accepted_if_spelled tells_board line a b o d e
+  pub board_accepted : BoardOk b → line ≡ spelled_board b → a ≡ got b (length line)
+  board_accepted o e = accepted_if_spelled tells_got line a b o d e
 
 -- a board that was written reads back as itself
-pub board_reads_back : (b : Board) (old new : List ℕ) (n : ℕ) (a : ReadBoard) → BoardOk b → WroteBoard b old new (Written.Length n) → ReadsBoard new 0 a → a ≡ ReadBoard.Value b (record { at = n })
-board_reads_back b old new n a o w d = reads_back tells_board b old new n a o (w.in_range o) d
+pub board_reads_back : (b : Board) (old new : List ℕ) (n : ℕ) (a : Read Board) → BoardOk b → WroteBoard b old new (Ok n) → ReadsBoard new 0 a → a ≡ got b n
+board_reads_back b old new n a o w d = reads_back tells_got b old new n a o (w.in_range o) d
 
-pub board_same_bytes : (line old new : List ℕ) (a : ReadBoard) (b : Board) (w : Written) → ReadsBoard line 0 a → a ≡ ReadBoard.Value b (record { at = length line })
+pub board_same_bytes : (line old new : List ℕ) (a : Read Board) (b : Board) (w : Result ℕ WriteError) → ReadsBoard line 0 a → a ≡ got b (length line)
     → BoardOk b → WroteBoard b old new w → length line ≤ length old → new ≡ line ++ drop (length line) old
-board_same_bytes line old new a b w d e o p h = same_bytes tells_board line old new a b w d e (p.in_range o) h
+board_same_bytes line old new a b w d e o p h = same_bytes tells_got line old new a b w d e (p.in_range o) h
 
 -- it holds or it does not
 abbrev pub Known : Type 0 → Type 0
@@ -156,7 +156,7 @@ board_known b =
     (all_known (le_known b.address 9) (le_known 0 b.address) (le_known b.address 7)))
 
 -- what `write_board` promises is determined
-pub write_board_determined : (b : Board) (old new new' : List ℕ) (r r' : Written) → WroteBoard b old new r → WroteBoard b old new' r' → (r ≡ r') × (new ≡ new')
+pub write_board_determined : (b : Board) (old new new' : List ℕ) (r r' : Result ℕ WriteError) → WroteBoard b old new r → WroteBoard b old new' r' → (r ≡ r') × (new ≡ new')
 write_board_determined b old new new' r r' p q =
     ⊎_elim (λ (o : BoardOk b). wrote_determined (spelled_board b) old new new' r r' (p.in_range o) (q.in_range o))
     (λ (n : BoardOk b → ⊥).
@@ -166,8 +166,8 @@ write_board_determined b old new new' r r' p q =
     (board_known b)
 
 -- 3 exactly where no board's line stands
-pub board_three : (text : List ℕ) (at : ℕ) (a : ReadBoard) → ReadsBoard text at a → (answer_number (board_answer a) ≡ 3) ↔ ((b : Board) → BoardOk b → Stands text at (spelled_board b) → ⊥)
+pub board_three : (text : List ℕ) (at : ℕ) (a : Read Board) → ReadsBoard text at a → (answer_number (board_answer a) ≡ 3) ↔ ((b : Board) → BoardOk b → Stands text at (spelled_board b) → ⊥)
 board_three text at a d = (
-  (λ h b o s. let e = sym h ∙ ap (λ (x : ReadBoard). answer_number (board_answer x)) (d.found b o s) in omega arith),
-  λ none. ⊎_elim (λ e. ap (λ (x : ReadBoard). answer_number (board_answer x)) e) (λ z. absurd (none z.0 z.1 z.2)) d.only,
+  (λ h b o s. let e = sym h ∙ ap (λ (x : Read Board). answer_number (board_answer x)) (d.found b o s) in omega arith),
+  λ none. ⊎_elim (λ e. ap (λ (x : Read Board). answer_number (board_answer x)) e) (λ z. absurd (none z.0 z.1 z.2)) d.only,
 )

@@ -1,5 +1,5 @@
 -- Believed: A record's line (document 01, 'The trace'): stamp, channel, event, and the event's fields.
-use Rattle.std.specs.Prelude.{ℕ, ◌≤◌, List, ◌++◌, drop}
+use Rattle.std.specs.Prelude.{ℕ, ◌≤◌, List, ◌++◌, drop, Ok, Err}
 use Rattle.record.specs.declared.Answer.{Answer}
 use Rattle.record.specs.declared.Answer.TheVariants.{Settled, BadLine}
 use Rattle.record.specs.declared.Event.{Event}
@@ -8,12 +8,12 @@ use Rattle.record.specs.declared.Record.{Record}
 use Rattle.field.specs.Ends.{tab}
 use Rattle.field.specs.Decimal.{largest, decimal}
 use Rattle.field.specs.Reads.{Reads}
-use Rattle.line.specs.declared.records.ReadRecord.{ReadRecord}
 use Rattle.line.specs.Places.{first_bad_field}
 use Rattle.line.specs.Words.{channel_f, channel_e, channel_l}
 use Rattle.line.specs.ChannelF.{spelled_flash, FlashOk}
 use Rattle.line.specs.ChannelE.{spelled_eeprom, EepromOk}
 use Rattle.line.specs.ChannelL.{spelled_line}
+use Rattle.field.specs.Readers.{Read, got, bad_field}
 
 unfoldable pub spelled_event : Event → List ℕ
 spelled_event (Flash e) = channel_f ++ (tab ++ spelled_flash e)
@@ -34,17 +34,17 @@ abbrev pub RecordOk : Record → Type 0
 RecordOk r = (r.stamp ≤ largest) × EventOk r.event
 
 -- the reading where no record's line stands: it tells the number of the first bad field
-abbrev pub bad_record : List ℕ → ℕ → ReadRecord
-bad_record text at = ReadRecord.Bad (first_bad_field (drop at text))
+abbrev pub bad_record : List ℕ → ℕ → Read Record
+bad_record text at = bad_field (first_bad_field (drop at text))
 
-abbrev pub ReadsRecord : List ℕ → ℕ → ReadRecord → Type 0
-ReadsRecord text at = Reads spelled RecordOk (λ x p. ReadRecord.Value x (record { at = p })) (bad_record text at) text at
+abbrev pub ReadsRecord : List ℕ → ℕ → Read Record → Type 0
+ReadsRecord text at = Reads spelled RecordOk got (bad_record text at) text at
 
 -- a reading by the paper's answers and fields: 3 and the field where no record's line stands, 0 (nothing is refused) and 0 where one does
-abbrev pub record_answer : ReadRecord → Answer
-record_answer (ReadRecord.Bad n) = BadLine
-record_answer (ReadRecord.Value r next) = Settled
+abbrev pub record_answer : Read Record → Answer
+record_answer (Err e) = BadLine
+record_answer (Ok x) = Settled
 
-abbrev pub record_fault : ReadRecord → ℕ
-record_fault (ReadRecord.Bad n) = n
-record_fault (ReadRecord.Value r next) = 0
+abbrev pub record_fault : Read Record → ℕ
+record_fault (Err e) = e.0
+record_fault (Ok x) = 0

@@ -4,59 +4,41 @@ ghost use Rattle.field.specs.Spelling.{put_all};
 ghost use Rattle.line.specs.ChannelE.{spelled_eeprom};
 ghost use Rattle.line.specs.Readers.{spelled_bit, ReadsData, ReadsEeprom};
 
-use crate::events::ReadEvent;
+use crate::events::read_last;
 use crate::numbers::{EVENT, FIRST, SECOND};
-use field::{Cursor, FieldEnd, ReadDigit, ReadEnd, ReadHex, ReadWord, Spelling};
+use field::{BadField, Cursor, FieldEnd, Spelling};
 use record::{EepromEvent, Event};
 
 // The byte and its acknowledge bit (0 acknowledged, 1 not), to the line's end.
-fn read_data(text: &[u8], c: Cursor) -> ReadEvent
+fn read_data(text: &[u8], c: Cursor) -> Result<(Event, Cursor), BadField>
     ensures { ReadsData text.now c.at result }
 {
-    let first = field::read_hex(text, c, FIRST);
-    let ReadHex::Value(byte, c1) = first else {
-        return ReadEvent::Bad(field::hex_fault(first));
-    };
-    let tab = field::read_end(text, c1, FieldEnd::Tab, FIRST);
-    let ReadEnd::Here(c2) = tab else {
-        return ReadEvent::Bad(field::end_fault(tab));
-    };
-    let second = field::read_digit(text, c2, 0, 1, SECOND);
-    let ReadDigit::Value(bit, c3) = second else {
-        return ReadEvent::Bad(field::digit_fault(second));
-    };
-    let lf = field::read_end(text, c3, FieldEnd::Lf, SECOND);
-    let ReadEnd::Here(c4) = lf else {
-        return ReadEvent::Bad(field::end_fault(lf));
-    };
-    ReadEvent::Value(Event::Eeprom(EepromEvent::Byte(byte, bit == 1)), c4)
+    let (byte, c1) = field::read_hex(text, c, FIRST)?;
+    let c2 = field::read_end(text, c1, FieldEnd::Tab, FIRST)?;
+    let (bit, c3) = field::read_digit(text, c2, 0, 1, SECOND)?;
+    let c4 = field::read_end(text, c3, FieldEnd::Lf, SECOND)?;
+    Ok((Event::Eeprom(EepromEvent::Byte(byte, bit == 1)), c4))
 }
 
 // The most frequent word, `b`, is tried first.
-pub fn read_eeprom(text: &[u8], c: Cursor) -> ReadEvent
+pub fn read_eeprom(text: &[u8], c: Cursor) -> Result<(Event, Cursor), BadField>
     ensures { ReadsEeprom text.now c.at result }
 {
-    if let ReadWord::Here(n) = field::read_word(text, c, b"b", EVENT) {
-        let tab = field::read_end(text, n, FieldEnd::Tab, EVENT);
-        let ReadEnd::Here(m) = tab else {
-            return ReadEvent::Bad(field::end_fault(tab));
-        };
+    if let Ok(n) = field::read_word(text, c, b"b", EVENT) {
+        let m = field::read_end(text, n, FieldEnd::Tab, EVENT)?;
         return read_data(text, m);
     }
-    if let ReadWord::Here(n) = field::read_word(text, c, b"sta", EVENT) {
-        return crate::events::read_last(text, n, Event::Eeprom(EepromEvent::Start));
+    if let Ok(n) = field::read_word(text, c, b"sta", EVENT) {
+        return read_last(text, n, Event::Eeprom(EepromEvent::Start));
     }
-    if let ReadWord::Here(n) = field::read_word(text, c, b"sto", EVENT) {
-        return crate::events::read_last(text, n, Event::Eeprom(EepromEvent::Stop));
+    if let Ok(n) = field::read_word(text, c, b"sto", EVENT) {
+        return read_last(text, n, Event::Eeprom(EepromEvent::Stop));
     }
-    if let ReadWord::Here(n) = field::read_word(text, c, b"end", EVENT) {
-        return crate::events::read_last(text, n, Event::Eeprom(EepromEvent::End));
+    if let Ok(n) = field::read_word(text, c, b"end", EVENT) {
+        return read_last(text, n, Event::Eeprom(EepromEvent::End));
     }
-    let word = field::read_word(text, c, b"cut", EVENT);
-    let ReadWord::Here(n) = word else {
-        return ReadEvent::Bad(field::word_fault(word));
-    };
-    crate::events::read_last(text, n, Event::Eeprom(EepromEvent::Cut))
+    let n = field::read_word(text, c, b"cut", EVENT)?;
+    read_last(text, n, Event::Eeprom(EepromEvent::Cut))
 }
 
 fn put_bit(s: Spelling, ack: bool) -> Spelling

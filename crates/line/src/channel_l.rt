@@ -4,28 +4,25 @@ ghost use Rattle.field.specs.Spelling.{put_all};
 ghost use Rattle.line.specs.ChannelL.{spelled_line};
 ghost use Rattle.line.specs.Readers.{ReadsLine};
 
-use crate::events::ReadEvent;
+use crate::events::read_last;
 use crate::numbers::EVENT;
-use field::{Cursor, ReadWord, Spelling};
+use field::{BadField, Cursor, Spelling};
 use record::{Event, LineEvent};
 
-pub fn read_line(text: &[u8], c: Cursor) -> ReadEvent
+pub fn read_line(text: &[u8], c: Cursor) -> Result<(Event, Cursor), BadField>
     ensures { ReadsLine text.now c.at result }
 {
-    if let ReadWord::Here(n) = field::read_word(text, c, b"on", EVENT) {
-        return crate::events::read_last(text, n, Event::Line(LineEvent::SupplyOn));
+    if let Ok(n) = field::read_word(text, c, b"on", EVENT) {
+        return read_last(text, n, Event::Line(LineEvent::SupplyOn));
     }
-    if let ReadWord::Here(n) = field::read_word(text, c, b"off", EVENT) {
-        return crate::events::read_last(text, n, Event::Line(LineEvent::SupplyOff));
+    if let Ok(n) = field::read_word(text, c, b"off", EVENT) {
+        return read_last(text, n, Event::Line(LineEvent::SupplyOff));
     }
-    if let ReadWord::Here(n) = field::read_word(text, c, b"lock", EVENT) {
-        return crate::events::read_last(text, n, Event::Line(LineEvent::LockOn));
+    if let Ok(n) = field::read_word(text, c, b"lock", EVENT) {
+        return read_last(text, n, Event::Line(LineEvent::LockOn));
     }
-    let word = field::read_word(text, c, b"free", EVENT);
-    let ReadWord::Here(n) = word else {
-        return ReadEvent::Bad(field::word_fault(word));
-    };
-    crate::events::read_last(text, n, Event::Line(LineEvent::LockOff))
+    let n = field::read_word(text, c, b"free", EVENT)?;
+    read_last(text, n, Event::Line(LineEvent::LockOff))
 }
 
 pub fn put_line(s: Spelling, e: LineEvent) -> Spelling

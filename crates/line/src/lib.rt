@@ -11,7 +11,7 @@ mod numbers;
 mod output;
 mod records;
 
-pub use boards::{ReadBoard, board_fault, read_board, write_board};
+pub use boards::{read_board, write_board};
 pub use numbers::STAMP;
-pub use output::Written;
-pub use records::{ReadRecord, read_record, record_fault, write_record};
+pub use output::WriteError;
+pub use records::{read_record, write_record};

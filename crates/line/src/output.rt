@@ -6,26 +6,22 @@ ghost use Rattle.line.specs.Output.{Wrote};
 
 use field::Spelling;
 
-#[derive(Clone, Copy)]
-pub enum Written {
+// Why no line was written: what was given is out of range, or the output is too short for the line.
+#[derive(Clone, Copy, Debug, PartialEq, Eq)]
+pub enum WriteError {
     OutOfRange,
     TooShort,
-    Length(usize),
 }
 
-// Copies the bytes held to the front of the output, if there is room for all.
-pub(crate) fn copy_out(s: Spelling, out: &mut [u8]) -> Written
+// Copies the bytes held to the front of the output, if there is room for all; how many they are.
+pub(crate) fn copy_out(s: Spelling, out: &mut [u8]) -> Result<usize, WriteError>
     requires { s.len ≤ room }
     ensures { Wrote (held s) out.old out.new result }
 {
     let n = s.len;
     if out.len() < n {
-        return Written::TooShort;
+        return Err(WriteError::TooShort);
     }
-    let mut k = 0;
-    while k < n {
-        out[k] = s.bytes[k];
-        k += 1;
-    }
-    Written::Length(n)
+    out[..n].copy_from_slice(&s.bytes[..n]);
+    Ok(n)
 }

@@ -1,22 +1,19 @@
-use Rattle.line.specs.declared.boards.ReadBoard.{ReadBoard}
+use Rattle.field.proofs.Answers.{tells_got, tells_past, refused}
+use Rattle.field.proofs.Reading.{got_one, as_told}
 use Rattle.line.proofs.BoardLaws.{places_1, places_2, places_3, places_4, places_all}
-use Rattle.field.specs.Readers.{digit_fault, end_fault}
-use Rattle.field.proofs.Answers.{tells_digit, tells_end}
-use mathlib.Core.Path.{ap, ◌∙◌}
-use Rattle.field.proofs.Reading.{got_none, got_one, got_bad, as_told}
 use Rattle.line.proofs.boards.read_places.Goals as goal
 
-pub returns-in_default : goal.returns-in_default
-returns-in_default c = as_told (ap ReadBoard.Bad (c.digit_fault.ensures ∙ ap digit_fault (got_bad tells_digit c.read_digit-first.ensures c.in_default.is))) (places_1 _ (got_none tells_digit c.read_digit-first.ensures c.in_default.is))
+pub returns-in_err-sector : goal.returns-in_err-sector
+returns-in_err-sector c = let n = refused tells_got c.read_digit.ensures c.in_err-sector.was c.from_residual.ensures.1 in as_told n.same (places_1 _ n.none)
 
-pub returns-in_default-tab : goal.returns-in_default-tab
-returns-in_default-tab c = as_told (ap ReadBoard.Bad (c.end_fault.ensures ∙ ap end_fault (got_bad tells_end c.read_end-tab.ensures c.in_default-tab.is))) (places_2 _ (got_one tells_digit c.read_digit-first.ensures _ _ c.in-Value.is) (got_none tells_end c.read_end-tab.ensures c.in_default-tab.is))
+pub returns-in_err-c2 : goal.returns-in_err-c2
+returns-in_err-c2 c = let n = refused tells_past c.read_end.ensures c.in_err-c2.was c.from_residual-in_err-c2.ensures.1 in as_told n.same (places_2 _ (got_one tells_got c.read_digit.ensures _ _ c.in_ok-sector.was) n.none)
 
-pub returns-in_default-second : goal.returns-in_default-second
-returns-in_default-second c = as_told (ap ReadBoard.Bad (c.digit_fault-in_default-second.ensures ∙ ap digit_fault (got_bad tells_digit c.read_digit-second.ensures c.in_default-second.is))) (places_3 _ (got_one tells_digit c.read_digit-first.ensures _ _ c.in-Value.is) (got_one tells_end c.read_end-tab.ensures _ _ c.in-Here.is) (got_none tells_digit c.read_digit-second.ensures c.in_default-second.is))
+pub returns-in_err-address : goal.returns-in_err-address
+returns-in_err-address c = let n = refused tells_got c.read_digit-2.ensures c.in_err-address.was c.from_residual-in_err-address.ensures.1 in as_told n.same (places_3 _ (got_one tells_got c.read_digit.ensures _ _ c.in_ok-sector.was) (got_one tells_past c.read_end.ensures tt _ c.in_ok-c2.was) n.none)
 
-pub returns-in_default-lf : goal.returns-in_default-lf
-returns-in_default-lf c = as_told (ap ReadBoard.Bad (c.end_fault-in_default-lf.ensures ∙ ap end_fault (got_bad tells_end c.read_end-lf.ensures c.in_default-lf.is))) (places_4 _ (got_one tells_digit c.read_digit-first.ensures _ _ c.in-Value.is) (got_one tells_end c.read_end-tab.ensures _ _ c.in-Here.is) (got_one tells_digit c.read_digit-second.ensures _ _ c.in-Value-second.is) (got_none tells_end c.read_end-lf.ensures c.in_default-lf.is))
+pub returns-in_err-c4 : goal.returns-in_err-c4
+returns-in_err-c4 c = let n = refused tells_past c.read_end-2.ensures c.in_err-c4.was c.from_residual-in_err-c4.ensures.1 in as_told n.same (places_4 _ (got_one tells_got c.read_digit.ensures _ _ c.in_ok-sector.was) (got_one tells_past c.read_end.ensures tt _ c.in_ok-c2.was) (got_one tells_got c.read_digit-2.ensures _ _ c.in_ok-address.was) n.none)
 
 pub returns : goal.returns
-returns c = places_all _ (got_one tells_digit c.read_digit-first.ensures _ _ c.in-Value.is) (got_one tells_end c.read_end-tab.ensures _ _ c.in-Here.is) (got_one tells_digit c.read_digit-second.ensures _ _ c.in-Value-second.is) (got_one tells_end c.read_end-lf.ensures _ _ c.in-Here-lf.is)
+returns c = places_all _ (got_one tells_got c.read_digit.ensures _ _ c.in_ok-sector.was) (got_one tells_past c.read_end.ensures tt _ c.in_ok-c2.was) (got_one tells_got c.read_digit-2.ensures _ _ c.in_ok-address.was) (got_one tells_past c.read_end-2.ensures tt _ c.in_ok-c4.was)

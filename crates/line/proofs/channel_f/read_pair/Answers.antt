@@ -1,22 +1,19 @@
-use Rattle.line.specs.declared.events.ReadEvent.{ReadEvent}
+use Rattle.field.proofs.Answers.{tells_got, tells_past, refused}
+use Rattle.field.proofs.Reading.{got_one, as_told}
 use Rattle.line.proofs.FlashLaws.{pair_1, pair_2, pair_3, pair_4, pair_all}
-use Rattle.field.specs.Readers.{hex_fault, end_fault}
-use Rattle.field.proofs.Answers.{tells_hex, tells_end}
-use mathlib.Core.Path.{ap, ◌∙◌}
-use Rattle.field.proofs.Reading.{got_none, got_one, got_bad, as_told}
 use Rattle.line.proofs.channel_f.read_pair.Goals as goal
 
-pub returns-in_default : goal.returns-in_default
-returns-in_default c = as_told (ap ReadEvent.Bad (c.hex_fault.ensures ∙ ap hex_fault (got_bad tells_hex c.read_hex-first.ensures c.in_default.is))) (pair_1 (got_none tells_hex c.read_hex-first.ensures c.in_default.is))
+pub returns-in_err-si : goal.returns-in_err-si
+returns-in_err-si c = let n = refused tells_got c.read_hex.ensures c.in_err-si.was c.from_residual.ensures.1 in as_told n.same (pair_1 n.none)
 
-pub returns-in_default-tab : goal.returns-in_default-tab
-returns-in_default-tab c = as_told (ap ReadEvent.Bad (c.end_fault.ensures ∙ ap end_fault (got_bad tells_end c.read_end-tab.ensures c.in_default-tab.is))) (pair_2 (got_one tells_hex c.read_hex-first.ensures _ _ c.in-Value.is) (got_none tells_end c.read_end-tab.ensures c.in_default-tab.is))
+pub returns-in_err-c2 : goal.returns-in_err-c2
+returns-in_err-c2 c = let n = refused tells_past c.read_end.ensures c.in_err-c2.was c.from_residual-in_err-c2.ensures.1 in as_told n.same (pair_2 (got_one tells_got c.read_hex.ensures _ _ c.in_ok-si.was) n.none)
 
-pub returns-in_default-second : goal.returns-in_default-second
-returns-in_default-second c = as_told (ap ReadEvent.Bad (c.hex_fault-in_default-second.ensures ∙ ap hex_fault (got_bad tells_hex c.read_hex-second.ensures c.in_default-second.is))) (pair_3 (got_one tells_hex c.read_hex-first.ensures _ _ c.in-Value.is) (got_one tells_end c.read_end-tab.ensures _ _ c.in-Here.is) (got_none tells_hex c.read_hex-second.ensures c.in_default-second.is))
+pub returns-in_err-so : goal.returns-in_err-so
+returns-in_err-so c = let n = refused tells_got c.read_hex-2.ensures c.in_err-so.was c.from_residual-in_err-so.ensures.1 in as_told n.same (pair_3 (got_one tells_got c.read_hex.ensures _ _ c.in_ok-si.was) (got_one tells_past c.read_end.ensures tt _ c.in_ok-c2.was) n.none)
 
-pub returns-in_default-lf : goal.returns-in_default-lf
-returns-in_default-lf c = as_told (ap ReadEvent.Bad (c.end_fault-in_default-lf.ensures ∙ ap end_fault (got_bad tells_end c.read_end-lf.ensures c.in_default-lf.is))) (pair_4 (got_one tells_hex c.read_hex-first.ensures _ _ c.in-Value.is) (got_one tells_end c.read_end-tab.ensures _ _ c.in-Here.is) (got_one tells_hex c.read_hex-second.ensures _ _ c.in-Value-second.is) (got_none tells_end c.read_end-lf.ensures c.in_default-lf.is))
+pub returns-in_err-c4 : goal.returns-in_err-c4
+returns-in_err-c4 c = let n = refused tells_past c.read_end-2.ensures c.in_err-c4.was c.from_residual-in_err-c4.ensures.1 in as_told n.same (pair_4 (got_one tells_got c.read_hex.ensures _ _ c.in_ok-si.was) (got_one tells_past c.read_end.ensures tt _ c.in_ok-c2.was) (got_one tells_got c.read_hex-2.ensures _ _ c.in_ok-so.was) n.none)
 
 pub returns : goal.returns
-returns c = pair_all (got_one tells_hex c.read_hex-first.ensures _ _ c.in-Value.is) (got_one tells_end c.read_end-tab.ensures _ _ c.in-Here.is) (got_one tells_hex c.read_hex-second.ensures _ _ c.in-Value-second.is) (got_one tells_end c.read_end-lf.ensures _ _ c.in-Here-lf.is)
+returns c = pair_all (got_one tells_got c.read_hex.ensures _ _ c.in_ok-si.was) (got_one tells_past c.read_end.ensures tt _ c.in_ok-c2.was) (got_one tells_got c.read_hex-2.ensures _ _ c.in_ok-so.was) (got_one tells_past c.read_end-2.ensures tt _ c.in_ok-c4.was)

@@ -1,9 +1,6 @@
-use Rattle.field.proofs.Reading.{none, got_none, got_bad, as_told}
-use Rattle.line.specs.declared.events.ReadEvent.{ReadEvent}
-use Rattle.field.specs.Readers.{end_fault}
-use Rattle.field.proofs.Answers.{tells_end}
-use mathlib.Core.Path.{ap, ◌∙◌}
+use Rattle.field.proofs.Answers.{tells_past, refused}
+use Rattle.field.proofs.Reading.{none, as_told}
 use Rattle.line.proofs.events.read_last.Goals as goal
 
-pub returns-in_default : goal.returns-in_default
-returns-in_default c = as_told (ap ReadEvent.Bad (c.end_fault.ensures ∙ ap end_fault (got_bad tells_end c.read_end-lf.ensures c.in_default.is))) (none (λ x o s. got_none tells_end c.read_end-lf.ensures c.in_default.is x o s))
+pub returns-in_err-next : goal.returns-in_err-next
+returns-in_err-next c = let n = refused tells_past c.read_end.ensures c.in_err-next.was c.from_residual.ensures.1 in as_told n.same (none n.none)

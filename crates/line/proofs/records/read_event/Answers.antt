@@ -2,37 +2,28 @@ use Rattle.record.specs.declared.Event.TheVariants.{Flash, Eeprom, Line}
 use Rattle.record.specs.declared.FlashEvent.{FlashEvent}
 use Rattle.record.specs.declared.EepromEvent.{EepromEvent}
 use Rattle.record.specs.declared.LineEvent.{LineEvent}
+use Rattle.field.proofs.Answers.{tells_past, refused}
+use Rattle.field.proofs.Reading.{got_none, got_one, as_told}
 use Rattle.line.proofs.RecordLaws.{event_none, event_tab, event_flash, event_eeprom, event_line}
-use Rattle.line.specs.declared.events.ReadEvent.{ReadEvent}
-use Rattle.field.specs.Readers.{word_fault, end_fault}
-use Rattle.field.proofs.Answers.{tells_word, tells_end}
-use mathlib.Core.Path.{ap, ◌∙◌}
-use Rattle.field.proofs.Reading.{got_none, got_one, got_bad, as_told}
 use Rattle.line.proofs.records.read_event.Goals as goal
 
-pub returns-in_default-tab : goal.returns-in_default-tab
-returns-in_default-tab c = let w = got_one tells_word c.read_word.ensures tt _ c.in-Here.is in
-    as_told (ap ReadEvent.Bad (c.end_fault.ensures ∙ ap end_fault (got_bad tells_end c.read_end-tab.ensures c.in_default-tab.is))) (event_tab (Flash FlashEvent.End) w (got_none tells_end c.read_end-tab.ensures c.in_default-tab.is))
+pub returns-in_err-m : goal.returns-in_err-m
+returns-in_err-m c = let n = refused tells_past c.read_end.ensures c.in_err-m.was c.from_residual.ensures.1 in as_told n.same (event_tab (Flash FlashEvent.End) (got_one tells_past c.read_word.ensures tt _ c.in-Ok.is) n.none)
 
-pub returns-in-Here : goal.returns-in-Here
-returns-in-Here c = let w = got_one tells_word c.read_word.ensures tt _ c.in-Here.is in
-    event_flash w (got_one tells_end c.read_end-tab.ensures _ _ c.in-Here-tab.is) c.read_flash.ensures
+pub returns-in-Ok : goal.returns-in-Ok
+returns-in-Ok c = event_flash (got_one tells_past c.read_word.ensures tt _ c.in-Ok.is) (got_one tells_past c.read_end.ensures tt _ c.in_ok-m.was) c.read_flash.ensures
 
-pub returns-in_default-tab-2 : goal.returns-in_default-tab-2
-returns-in_default-tab-2 c = let w = got_one tells_word c.read_word-2.ensures tt _ c.in-Here-read_word.is in
-    as_told (ap ReadEvent.Bad (c.end_fault-in_default-tab-2.ensures ∙ ap end_fault (got_bad tells_end c.read_end-tab-in-Here-read_word.ensures c.in_default-tab-2.is))) (event_tab (Eeprom EepromEvent.End) w (got_none tells_end c.read_end-tab-in-Here-read_word.ensures c.in_default-tab-2.is))
+pub returns-in_err-m-2 : goal.returns-in_err-m-2
+returns-in_err-m-2 c = let n = refused tells_past c.read_end-in-Ok-read_word.ensures c.in_err-m-2.was c.from_residual-in_err-m-2.ensures.1 in as_told n.same (event_tab (Eeprom EepromEvent.End) (got_one tells_past c.read_word-2.ensures tt _ c.in-Ok-read_word.is) n.none)
 
-pub returns-in-Here-read_word : goal.returns-in-Here-read_word
-returns-in-Here-read_word c = let w = got_one tells_word c.read_word-2.ensures tt _ c.in-Here-read_word.is in
-    event_eeprom w (got_one tells_end c.read_end-tab-in-Here-read_word.ensures _ _ c.in-Here-tab-2.is) c.read_eeprom.ensures
+pub returns-in-Ok-read_word : goal.returns-in-Ok-read_word
+returns-in-Ok-read_word c = event_eeprom (got_one tells_past c.read_word-2.ensures tt _ c.in-Ok-read_word.is) (got_one tells_past c.read_end-in-Ok-read_word.ensures tt _ c.in_ok-m-2.was) c.read_eeprom.ensures
 
-pub returns-in_default-word : goal.returns-in_default-word
-returns-in_default-word c = as_told (ap ReadEvent.Bad (c.word_fault.ensures ∙ ap word_fault (got_bad tells_word c.read_word-word.ensures c.in_default-word.is))) (event_none (got_none tells_word c.read_word.ensures c.in_default.is) (got_none tells_word c.read_word-2.ensures c.in_default-read_word.is) (got_none tells_word c.read_word-word.ensures c.in_default-word.is))
+pub returns-in_err-n : goal.returns-in_err-n
+returns-in_err-n c = let n = refused tells_past c.read_word-3.ensures c.in_err-n.was c.from_residual-in_err-n.ensures.1 in as_told n.same (event_none (got_none tells_past c.read_word.ensures c.in_default.is) (got_none tells_past c.read_word-2.ensures c.in_default-read_word.is) n.none)
 
-pub returns-in_default-tab-3 : goal.returns-in_default-tab-3
-returns-in_default-tab-3 c = let w = got_one tells_word c.read_word-word.ensures tt _ c.in-Here-word.is in
-    as_told (ap ReadEvent.Bad (c.end_fault-in_default-tab-3.ensures ∙ ap end_fault (got_bad tells_end c.read_end-tab-2.ensures c.in_default-tab-3.is))) (event_tab (Line LineEvent.SupplyOn) w (got_none tells_end c.read_end-tab-2.ensures c.in_default-tab-3.is))
+pub returns-in_err-m-3 : goal.returns-in_err-m-3
+returns-in_err-m-3 c = let n = refused tells_past c.read_end-2.ensures c.in_err-m-3.was c.from_residual-in_err-m-3.ensures.1 in as_told n.same (event_tab (Line LineEvent.SupplyOn) (got_one tells_past c.read_word-3.ensures tt _ c.in_ok-n.was) n.none)
 
 pub returns : goal.returns
-returns c = let w = got_one tells_word c.read_word-word.ensures tt _ c.in-Here-word.is in
-    event_line w (got_one tells_end c.read_end-tab-2.ensures _ _ c.in-Here-tab-3.is) c.read_line.ensures
+returns c = event_line (got_one tells_past c.read_word-3.ensures tt _ c.in_ok-n.was) (got_one tells_past c.read_end-2.ensures tt _ c.in_ok-m-3.was) c.read_line.ensures

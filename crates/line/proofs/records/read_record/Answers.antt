@@ -1,21 +1,16 @@
+use Rattle.field.proofs.Answers.{tells_got, tells_past, refused}
+use Rattle.field.proofs.Reading.{got_one, as_told}
 use Rattle.line.proofs.RecordLaws.{record_1, record_2, record_3, record_all}
-use Rattle.line.proofs.Apart.{tells_event}
-use Rattle.line.specs.declared.records.ReadRecord.{ReadRecord}
-use Rattle.line.specs.Readers.{event_fault}
-use Rattle.field.specs.Readers.{decimal_fault, end_fault}
-use Rattle.field.proofs.Answers.{tells_decimal, tells_end}
-use mathlib.Core.Path.{ap, ◌∙◌}
-use Rattle.field.proofs.Reading.{got_none, got_one, got_bad, as_told}
 use Rattle.line.proofs.records.read_record.Goals as goal
 
-pub returns-in_default : goal.returns-in_default
-returns-in_default c = as_told (ap ReadRecord.Bad (c.decimal_fault.ensures ∙ ap decimal_fault (got_bad tells_decimal c.read_decimal-decimal.ensures c.in_default.is))) (record_1 (got_none tells_decimal c.read_decimal-decimal.ensures c.in_default.is))
+pub returns-in_err-stamp : goal.returns-in_err-stamp
+returns-in_err-stamp c = let n = refused tells_got c.read_decimal.ensures c.in_err-stamp.was c.from_residual.ensures.1 in as_told n.same (record_1 n.none)
 
-pub returns-in_default-tab : goal.returns-in_default-tab
-returns-in_default-tab c = as_told (ap ReadRecord.Bad (c.end_fault.ensures ∙ ap end_fault (got_bad tells_end c.read_end-tab.ensures c.in_default-tab.is))) (record_2 (got_one tells_decimal c.read_decimal-decimal.ensures _ _ c.in-Value.is) (got_none tells_end c.read_end-tab.ensures c.in_default-tab.is))
+pub returns-in_err-c2 : goal.returns-in_err-c2
+returns-in_err-c2 c = let n = refused tells_past c.read_end.ensures c.in_err-c2.was c.from_residual-in_err-c2.ensures.1 in as_told n.same (record_2 (got_one tells_got c.read_decimal.ensures _ _ c.in_ok-stamp.was) n.none)
 
-pub returns-in_default-read : goal.returns-in_default-read
-returns-in_default-read c = record_3 (got_one tells_decimal c.read_decimal-decimal.ensures _ _ c.in-Value.is) (got_one tells_end c.read_end-tab.ensures _ _ c.in-Here.is) (c.event_fault.ensures ∙ ap event_fault (got_bad tells_event c.read_event-read.ensures c.in_default-read.is)) (got_none tells_event c.read_event-read.ensures c.in_default-read.is)
+pub returns-in_err-event : goal.returns-in_err-event
+returns-in_err-event c = let n = refused tells_got c.read_event.ensures c.in_err-event.was c.from_residual-in_err-event.ensures.1 in as_told n.same (record_3 (got_one tells_got c.read_decimal.ensures _ _ c.in_ok-stamp.was) (got_one tells_past c.read_end.ensures tt _ c.in_ok-c2.was) n.none)
 
 pub returns : goal.returns
-returns c = record_all (got_one tells_decimal c.read_decimal-decimal.ensures _ _ c.in-Value.is) (got_one tells_end c.read_end-tab.ensures _ _ c.in-Here.is) (got_one tells_event c.read_event-read.ensures _ _ c.in-Value-read.is)
+returns c = record_all (got_one tells_got c.read_decimal.ensures _ _ c.in_ok-stamp.was) (got_one tells_past c.read_end.ensures tt _ c.in_ok-c2.was) (got_one tells_got c.read_event.ensures _ _ c.in_ok-event.was)
