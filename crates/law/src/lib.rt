@@ -2,8 +2,7 @@
 // It knows nothing of chips or traces.
 #![tactic(auto)]
 
-ghost use Rattle.std.specs.Prelude.{◌≡◌, false};
-ghost use Rattle.law.specs.Words.{pick};
+ghost use Rattle.std.specs.Prelude.{◌≡◌};
 ghost use Rattle.law.specs.Numbers.{numbers_of};
 ghost use Rattle.law.specs.Deciding.{Decides};
 
@@ -46,11 +45,4 @@ pub fn same_numbers(x: Numbers, y: Numbers) -> bool
         return false;
     }
     x.d == y.d
-}
-
-// Whether both hold, where the second has been asked already: a loop that asks all has no way out, so that a machine may ask many at once.
-pub fn both(x: bool, y: bool) -> bool
-    ensures { result ≡ pick x y false }
-{
-    if x { y } else { false }
 }

@@ -1,8 +1,7 @@
-// The chips' geometry; the place after one, in a page and in a whole chip; whether two pages are the same.
+// The chips' geometry; the place after one, in a page and in a whole chip.
 #![tactic(auto)]
 
 ghost use Rattle.std.specs.Prelude.{◌≡◌, ◌≤◌};
-ghost use Rattle.law.specs.Deciding.{Decides};
 ghost use Rattle.page.specs.Rolling.{rolled_in};
 
 // The flash: 256 bytes to a page, 32,768 to a sector.
@@ -29,20 +28,4 @@ pub fn rolled(at: u32, last: u32) -> u32
     ensures upper_bound { result ≤ last }
 {
     if at < last { at + 1 } else { 0 }
-}
-
-// Whether two pages are the same. There is no way out before the last byte, so that a machine may compare many at once.
-pub fn same(a: &[u8], b: &[u8]) -> bool
-    ensures { Decides result (a.now ≡ b.now) }
-{
-    if a.len() != b.len() {
-        return false;
-    }
-    let mut ok = true;
-    let mut i: usize = 0;
-    while i < a.len() {
-        ok = law::both(ok, a[i] == b[i]);
-        i += 1;
-    }
-    ok
 }

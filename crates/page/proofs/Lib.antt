@@ -1,2 +1,0 @@
--- The loop over two pages.
-pub mod Alike
