@@ -49,7 +49,7 @@ module _ {levels trace : List ℕ} {x : Images} {old new : List ℕ} {r : Bool} 
     unfolding unplayed play_left
     call_refused {a} {k} {f} d q = settle (refused a k f) (sym fits ∙ not-false r h) (refused_by g a k f d) (ap₂ (λ (i : ℕ) (l : List ℕ). left_as i x l) q.0 q.1)
 
-    pub call_both : {b : Board} {first : ℕ} {a : Level} {at : ℕ} {w : Weave} {y : Images} {k : ℕ} → j ≡ Judged.Both b first a at → Starts levels trace a at first w → PlaysAll levels trace w b x y →
+    pub call_both : {b : Board} {first : ℕ} {a : Level} {at : ℕ} {w : Weave} {y : Images} {k : ℕ} → j ≡ Judged.Both b first a at → Starts levels trace a at first w → PlaysAll w b x y →
         k ≡ answer_number Settled → (n ≡ k) × (new ≡ result_after k 0 0 0 old) → Plays levels trace (record { images = x; result = old }) (left_as n y new)
     unfolding play_left
     call_both {b} {first} {a} {at} {w} {y} d s p e q =

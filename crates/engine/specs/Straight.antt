@@ -1,5 +1,5 @@
 -- The records that are left are played in their order.
-use Rattle.std.specs.Prelude.{ℕ, ◌≤◌, ◌≡◌, List, length}
+use Rattle.std.specs.Prelude.{◌≤◌, ◌≡◌, List, length}
 use Rattle.meaning.specs.Meaning.{after}
 use Rattle.record.specs.declared.Board.{Board}
 use Rattle.record.specs.declared.Record.{Record}
@@ -10,5 +10,5 @@ use Rattle.weave.specs.declared.Weave.{Weave}
 use Rattle.weave.specs.Weaving.{Left}
 
 -- from the images x they lead to y
-pub record PlaysAll (levels trace : List ℕ) (w : Weave) (b : Board) (x y : Images) : Type 0 where
-  pub plays : (m : List Record) → Left levels trace w m → length m ≤ most → y ≡ (after (on_machine b) m (machine_at_start b x)).images
+pub record PlaysAll (w : Weave) (b : Board) (x y : Images) : Type 0 where
+  pub plays : (m : List Record) → Left w m → length m ≤ most → y ≡ (after (on_machine b) m (machine_at_start b x)).images

@@ -10,35 +10,24 @@ ghost use Rattle.engine.specs.Straight.{PlaysAll};
 use controls::Controls;
 use judge::Judged;
 use record::{Answer, Board};
-use weave::{Head, Weave};
+use weave::Weave;
 
 // All that is left, on the images: no more than the most that both texts can give.
 fn play_all(
-    levels: &[u8],
-    trace: &[u8],
-    start: Weave,
+    left: Weave<'_>,
     board: Board,
     flash: &mut [u8],
     flash_mask: &mut [u8],
     eeprom: &mut [u8],
     eeprom_mask: &mut [u8],
 )
-    ensures { PlaysAll levels.now trace.now start board (images_of flash.old flash_mask.old eeprom.old eeprom_mask.old)
+    ensures { PlaysAll left.entry board (images_of flash.old flash_mask.old eeprom.old eeprom_mask.old)
         (images_of flash.new flash_mask.new eeprom.new eeprom_mask.new) }
 {
-    let mut w = start;
     let mut cur = Controls::start(board);
-    let mut k: usize = 0;
-    while k < weave::MOST {
-        let woven = weave::next_woven(levels, trace, w);
-        let head = woven.head;
-        let Head::Next(rec) = head else {
-            return;
-        };
+    for rec in left.take(weave::MOST) {
         let played = machine::play(board, cur, rec, flash, flash_mask, eeprom, eeprom_mask);
         cur = played.controls;
-        w = woven.left;
-        k += 1;
     }
 }
 
@@ -65,17 +54,8 @@ pub fn play_levels(
             return buffers::put_answer(res, answer, line, 0, field);
         }
         Judged::Both(board, first, a, at) => {
-            let start = weave::start_weave(levels, trace, a, at, first);
-            play_all(
-                levels,
-                trace,
-                start,
-                board,
-                flash,
-                flash_mask,
-                eeprom,
-                eeprom_mask,
-            );
+            let all = Weave::new(levels, trace, a, at, first);
+            play_all(all, board, flash, flash_mask, eeprom, eeprom_mask);
             return buffers::put_answer(res, record::answer_number(Answer::Settled), 0, 0, 0);
         }
     }

@@ -49,14 +49,14 @@ joined u v old =
     ∙ sym (append_assoc u v (drop (length (u ++ v)) old))
 
 -- ---- the board's line, then the others
-module _ {levels trace : List ℕ} {w : Weave} {b : Board} {old mid : List ℕ} {r : Written} (d : WroteBoard b old mid r) where
-  pub text_out : {n : ℕ} → r ≡ Written.OutOfRange → WritesText levels trace w b old mid n
+module _ {w : Weave} {b : Board} {old mid : List ℕ} {r : Written} (d : WroteBoard b old mid r) where
+  pub text_out : {n : ℕ} → r ≡ Written.OutOfRange → WritesText w b old mid n
   text_out e = record { writes = λ m o l n h. absurd (not_out (d.in_range o) (room b m old h) e) }
 
-  pub text_short : {n : ℕ} → r ≡ Written.TooShort → WritesText levels trace w b old mid n
+  pub text_short : {n : ℕ} → r ≡ Written.TooShort → WritesText w b old mid n
   text_short e = record { writes = λ m o l n h. absurd (not_short (d.in_range o) (room b m old h) e) }
 
-  pub text_all : {n k : ℕ} {new : List ℕ} → r ≡ Written.Length n → WritesAll levels trace w n mid new k → WritesText levels trace w b old new k
+  pub text_all : {n k : ℕ} {new : List ℕ} → r ≡ Written.Length n → WritesAll w n mid new k → WritesText w b old new k
   unfolding spelled_trace
   text_all {n} {k} {new} e v = record {
     writes = λ m o l c h.
@@ -109,7 +109,7 @@ module _ {levels trace : List ℕ} {b : Board} {first : ℕ} {a : Level} {at : �
       (v.room u.ls u.rs u.m (levels_from u.readable u.place u.captures u.behind) (records_from u.readable u.place u.captures u.behind) u.in_order short)
       (λ h. omega (arith, trace_length b u.m)) (λ h. omega (arith, trace_length b u.m))
 
-  wrote : {w : Weave} {out out' : List ℕ} {c : ℕ} {t : Bool} → Starts levels trace a at first w → HasRoom levels trace a at first (length out) t → not t ≡ false → WritesText levels trace w b out out' c →
+  wrote : {w : Weave} {out out' : List ℕ} {c : ℕ} {t : Bool} → Starts levels trace a at first w → HasRoom levels trace a at first (length out) t → not t ≡ false → WritesText w b out out' c →
       (c ≡ length (spelled_trace b u.m)) × (out' ≡ spelled_trace b u.m ++ drop (length (spelled_trace b u.m)) out)
   wrote s v h p =
       p.writes u.m u.readable.board (s.starts b u.rs u.ls u.m u.readable u.place u.captures u.behind u.in_order) u.small (passed (fits v) h)
@@ -123,7 +123,7 @@ both_within {b = b} {first = first} {a = a} {at = at} g d = within (both_by g b 
 
 -- the text's length has room in the result
 pub length_small : {levels trace out out' : List ℕ} {j : Judged} {b : Board} {first : ℕ} {a : Level} {at : ℕ} {w : Weave} {t : Bool} {c : ℕ} → Judging levels trace j → j ≡ Judged.Both b first a at →
-    HasRoom levels trace a at first (length out) t → not t ≡ false → Starts levels trace a at first w → WritesText levels trace w b out out' c → c ≤ longest_text
+    HasRoom levels trace a at first (length out) t → not t ≡ false → Starts levels trace a at first w → WritesText w b out out' c → c ≤ longest_text
 length_small {b = b} {first = first} {a = a} {at = at} g d v h s p = let u = both_by g b first a at d in omega (arith, (wrote u s v h p).0, text_fits u.judges)
 
 -- a refusal leaves the output alone
@@ -159,7 +159,7 @@ module _ {levels trace out old new : List ℕ} {n : ℕ} where
           by_room b u.m true u.judges (eq-eqb (length old) result_length fit) (lt-ltb (length out) (length text) (above (length text) (length out) (λ z. (fits u v).fails (not-true t h) z)))
           (refusal out old i 0 0 q ∙ ap (λ (k : ℕ). unwritten k 0 0 (outputs_of out old)) e)
 
-      pub merge_written : {w : Weave} {out' : List ℕ} {c i : ℕ} → not t ≡ false → Starts levels trace a at first w → WritesText levels trace w b out out' c → i ≡ answer_number Settled → (n ≡ i) × (new ≡ result_after i 0 c 0 old) →
+      pub merge_written : {w : Weave} {out' : List ℕ} {c i : ℕ} → not t ≡ false → Starts levels trace a at first w → WritesText w b out out' c → i ≡ answer_number Settled → (n ≡ i) × (new ≡ result_after i 0 c 0 old) →
           Merges levels trace (outputs_of out old) (wrote_as n (outputs_of out' new))
       unfolding written
       merge_written {w} {out'} {c} {i} h s p e q =

@@ -1,7 +1,8 @@
 -- How long a record's line is, part by part.
-use Prim.Native.Nat.{ℕ, ◌+◌, ◌/◌, ◌%◌, ◌≤◌, ◌<◌}
+use Prim.Native.Nat.{ℕ, zero, suc, ◌+◌, ◌*◌, ◌^◌, ◌/◌, ◌%◌, ◌≤◌, ◌<◌}
+use native.Mathlib.Nat.{pow-suc}
 use native.Mathlib.Omega.{arith}
-use mathlib.Core.Path.{◌≡◌, refl, ap}
+use mathlib.Core.Path.{◌≡◌, refl, sym, ap}
 use mathlib.Core.Bool.{true, false}
 use mathlib.Core.List.{[], ◌∷◌}
 use lib.ListN.{length, length-append}
@@ -12,7 +13,7 @@ use Rattle.record.specs.declared.Event.{Event}
 use Rattle.record.specs.declared.Record.{Record}
 use Rattle.field.specs.Decimal.{largest, decimal}
 use Rattle.field.specs.Hex.{hex_field}
-use Rattle.field.proofs.SpellingLaws.{decimal_split, decimal_last, digits_count}
+use Rattle.field.proofs.SpellingLaws.{decimal_split, decimal_last}
 use Rattle.line.specs.ChannelF.{spelled_flash}
 use Rattle.line.specs.ChannelE.{spelled_eeprom}
 use Rattle.line.specs.ChannelL.{spelled_line}
@@ -20,27 +21,25 @@ use Rattle.line.specs.Records.{spelled_event, spelled}
 use Rattle.line.proofs.OutputLaws.{parts, spelled_length_max}
 use Rattle.merged.specs.Writing.{longest}
 
--- ---- digits: so many were counted, the rest has the others
-pub record Counting (value rest n : ℕ) : Type 0 where
-  pub counted : n + length (decimal rest) ≡ 1 + length (decimal value)
-  pub within : rest ≤ value
-  pub few : n ≤ 10
+-- ---- digits
+pub digits_of_zero : length (decimal 0) ≡ 1
+digits_of_zero = sym (ap length (decimal_last 0 (omega arith)))
 
-pub count_start : (value : ℕ) → Counting value value 1
-count_start value = record { counted = refl; within = omega arith; few = omega arith }
+power_some : (k : ℕ) → 1 ≤ 10 ^ k
+power_some zero = omega arith
+power_some (suc k) = omega (arith, pow-suc 10 k, power_some k)
 
-pub count_next : {value rest n : ℕ} → value ≤ largest → 10 ≤ rest → Counting value rest n → Counting value (rest / 10) (n + 1)
-count_next {value} {rest} {n} l h c = record {
-  counted = e;
-  within = omega (arith, c.within);
-  few = omega (arith, e, digits_count value l, digits_count (rest / 10) (omega (arith, c.within)));
-}
-  where
-    e : n + 1 + length (decimal (rest / 10)) ≡ 1 + length (decimal value)
-    e = omega (arith, c.counted, ap length (decimal_split rest h), length-append (decimal (rest / 10)) ((48 + rest % 10) ∷ []))
-
-pub count_end : {value rest n : ℕ} → rest < 10 → Counting value rest n → n ≡ length (decimal value)
-count_end {value} {rest} {n} h c = omega (arith, c.counted, ap length (decimal_last rest h))
+pub digits_by_power : (k n : ℕ) → 10 ^ k ≤ n → n < 10 * 10 ^ k → length (decimal n) ≡ 1 + k
+digits_by_power zero n l h = sym (ap length (decimal_last n (omega arith)))
+digits_by_power (suc k) n l h =
+    let p = pow-suc 10 k in
+    let some = power_some k in
+    omega (
+      arith,
+      ap length (decimal_split n (omega arith)),
+      length-append (decimal (n / 10)) ((48 + n % 10) ∷ []),
+      digits_by_power k (n / 10) (omega arith) (omega arith),
+    )
 
 -- ---- events, from the channel's letter to the LF
 abbrev pub flash_length : FlashEvent → ℕ

@@ -44,10 +44,10 @@ pub record HasRoom (capture trace : List ℕ) (a : Level) (at first bytes : ℕ)
 pub record WritesLine (rec : Record) (at : ℕ) (old new : List ℕ) (r : ℕ) : Type 0 where
   pub writes : at + length (spelled rec) ≤ length old → (r ≡ at + length (spelled rec)) × (new ≡ put_at at (spelled rec) old)
 
-pub record WritesAll (levels trace : List ℕ) (w : Weave) (from : ℕ) (old new : List ℕ) (r : ℕ) : Type 0 where
-  pub writes : (m : List Record) → Left levels trace w m → length m ≤ most → from + length (spelled_all m) ≤ length old → (r ≡ from + length (spelled_all m)) × (new ≡ put_at from (spelled_all m) old)
+pub record WritesAll (w : Weave) (from : ℕ) (old new : List ℕ) (r : ℕ) : Type 0 where
+  pub writes : (m : List Record) → Left w m → length m ≤ most → from + length (spelled_all m) ≤ length old → (r ≡ from + length (spelled_all m)) × (new ≡ put_at from (spelled_all m) old)
 
 -- the whole text at the front, where there is room for it
-pub record WritesText (levels trace : List ℕ) (w : Weave) (b : Board) (old new : List ℕ) (r : ℕ) : Type 0 where
-  pub writes : (m : List Record) → BoardOk b → Left levels trace w m → length m ≤ most → length (spelled_trace b m) ≤ length old →
+pub record WritesText (w : Weave) (b : Board) (old new : List ℕ) (r : ℕ) : Type 0 where
+  pub writes : (m : List Record) → BoardOk b → Left w m → length m ≤ most → length (spelled_trace b m) ≤ length old →
       (r ≡ length (spelled_trace b m)) × (new ≡ spelled_trace b m ++ drop (length (spelled_trace b m)) old)

@@ -21,13 +21,10 @@ const TAB: usize = 1;
 fn digits(value: u32) -> usize
     ensures { result ≡ length (decimal value) }
 {
-    let mut rest = value;
-    let mut n: usize = 1;
-    while 10 <= rest {
-        rest = rest / 10;
-        n += 1;
+    if value == 0 {
+        return 1;
     }
-    n
+    1 + value.ilog10() as usize
 }
 
 // From the channel's letter to the LF: letter and tab, then a word of three letters and the LF, or the byte's word and both bytes.

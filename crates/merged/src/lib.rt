@@ -10,7 +10,7 @@ use judge::Judged;
 use level::Level;
 use line::Written;
 use record::{Answer, Board, LevelsAnswer, Record};
-use weave::{Head, Weave};
+use weave::Weave;
 
 mod length;
 
@@ -40,55 +40,30 @@ fn write_line(rec: Record, output: &mut [u8], at: usize) -> usize
     if output.len() < at {
         return at;
     }
-    let done = line::write_record(rec, &mut output[at..]);
-    match done {
-        Written::OutOfRange => {
-            return at;
-        }
-        Written::TooShort => {
-            return at;
-        }
-        Written::Length(n) => {
-            return at + n;
-        }
+    match line::write_record(rec, &mut output[at..]) {
+        Written::OutOfRange | Written::TooShort => at,
+        Written::Length(n) => at + n,
     }
 }
 
 // The lines of all records that are left, and the place after the last.
-fn write_all(levels: &[u8], trace: &[u8], start: Weave, from: usize, output: &mut [u8]) -> usize
-    ensures { WritesAll levels.now trace.now start from output.old output.new result }
+fn write_all(left: Weave<'_>, from: usize, output: &mut [u8]) -> usize
+    ensures { WritesAll left.entry from output.old output.new result }
 {
-    let mut w = start;
     let mut at = from;
-    let mut k: usize = 0;
-    while k < weave::MOST {
-        let woven = weave::next_woven(levels, trace, w);
-        let head = woven.head;
-        let Head::Next(rec) = head else {
-            return at;
-        };
+    for rec in left.take(weave::MOST) {
         at = write_line(rec, output, at);
-        w = woven.left;
-        k += 1;
     }
     at
 }
 
 // The board's line, then all records' lines; the length of the text.
-fn write_text(levels: &[u8], trace: &[u8], start: Weave, board: Board, output: &mut [u8]) -> usize
-    ensures { WritesText levels.now trace.now start board output.old output.new result }
+fn write_text(left: Weave<'_>, board: Board, output: &mut [u8]) -> usize
+    ensures { WritesText left.entry board output.old output.new result }
 {
-    let done = line::write_board(board, output);
-    match done {
-        Written::OutOfRange => {
-            return 0;
-        }
-        Written::TooShort => {
-            return 0;
-        }
-        Written::Length(n) => {
-            return write_all(levels, trace, start, n, output);
-        }
+    match line::write_board(board, output) {
+        Written::OutOfRange | Written::TooShort => 0,
+        Written::Length(n) => write_all(left, n, output),
     }
 }
 
@@ -114,8 +89,8 @@ pub fn merge(levels: &[u8], trace: &[u8], output: &mut [u8], res: &mut [u8]) -> 
                     0,
                 );
             }
-            let start = weave::start_weave(levels, trace, a, at, first);
-            let length = write_text(levels, trace, start, board, output);
+            let all = Weave::new(levels, trace, a, at, first);
+            let length = write_text(all, board, output);
             return buffers::put_answer(
                 res,
                 record::answer_number(Answer::Settled),

@@ -2,13 +2,13 @@
 use Prim.Native.Nat.{ℕ, ◌≤◌, ◌<◌}
 use mathlib.Core.Path.{◌≡◌, refl, sym, ap, subst, ◌∙◌}
 use mathlib.Core.Bool.{true, false}
+use Rattle.std.specs.Prelude.{Some, None}
 use mathlib.Core.List.{List, ◌∷◌}
 use lib.ListN.{length}
 use Rattle.law.specs.Words.{filter, keep}
 use Rattle.record.specs.declared.Record.{Record}
 use Rattle.field.specs.Reads.{Stands}
 use Rattle.field.proofs.Reading.{Got}
-use Rattle.field.proofs.Answers.{zero_one}
 use Rattle.line.specs.Records.{spelled, RecordOk}
 use Rattle.level.specs.declared.Level.{Level}
 use Rattle.level.specs.Spelled.{spelled_level, LevelOk}
@@ -23,18 +23,18 @@ use Rattle.capture.specs.Taken.{is_of, part_of}
 use Rattle.capture.specs.OneByOne.{records, levels}
 use Rattle.capture.proofs.OneByOne.{some_record, some_level, took, not_none, at_end}
 use Rattle.weave.specs.declared.feed.Behind.{Behind}
-use Rattle.weave.specs.declared.feed.LevelFeed.{LevelFeed}
-use Rattle.weave.specs.declared.feed.TraceFeed.{TraceFeed}
-use Rattle.weave.specs.Feeding.{behind_of, give_by, give_of, LevelsLeft, TraceLeft, letter_of, Passes, in_levels, in_trace, level_feed, trace_feed, PlaceLeft, Gives, done, next, FeedsLevels, FeedsTrace, Feeds}
+use Rattle.weave.specs.declared.feed.Within.{Within}
+use Rattle.weave.specs.Weaving.{head_number, number_ahead}
+use Rattle.weave.specs.Feeding.{LevelFeed, TraceFeed, behind_of, within_of, give_by, give_of, LevelsLeft, TraceLeft, letter_of, Passes, in_levels, in_trace, level_feed, trace_feed, PlaceLeft, Gives, done, next, FeedsLevels, FeedsTrace, Feeds}
 
-not_done : {A : Type 0} {x : Record} {p : Behind} → LevelFeed.Done ≡ LevelFeed.Next x p → A
-not_done h = absurd (zero_one (cc))
+none_some : {A B : Type 0} {x : A} → None ≡ Some x → B
+none_some h = absurd (cc)
 
 -- ---- the capture
 module _ (text : List ℕ) (at : ℕ) (l : Level) (s : Bits) where
-  given : (o : Out) (x : Record) (p : Behind) (trace : List ℕ) (xs : List Record) → give_by at l s o ≡ LevelFeed.Next x p → LevelsLeft text (behind_of at l s o) xs → Gives text trace (level_feed (LevelFeed.Next x p)) xs
+  given : (o : Out) (x : Record) (p : Behind) (trace : List ℕ) (xs : List Record) → give_by at l s o ≡ Some (x, p) → LevelsLeft text (behind_of at l s o) xs → Gives text trace (level_feed (Some (x, p))) xs
   unfolding PlaceLeft events_of
-  given Nothing x p trace xs h k = not_done h
+  given Nothing x p trace xs h k = none_some h
   given (One e) x p trace xs h k =
       subst (λ (r : LevelFeed). Gives text trace (level_feed r) xs) h
       (subst (Gives text trace (level_feed (give_by at l s (One e)))) (sym k.is)
@@ -44,57 +44,48 @@ module _ (text : List ℕ) (at : ℕ) (l : Level) (s : Bits) where
       (subst (Gives text trace (level_feed (give_by at l s (Two d e)))) (sym k.is)
       (next (record_at l.stamp d) (in_levels (behind_of at l s (One e))) _ (record { ls = k.ls; from = k.from; is = refl })))
 
-  nothing_more : (o : Out) (xs : List Record) → give_by at l s o ≡ LevelFeed.Done → LevelsLeft text (behind_of at l s o) xs → LevelsLeft text (behind_of at l s Nothing) xs
+  nothing_more : (o : Out) (xs : List Record) → None ≡ give_by at l s o → LevelsLeft text (behind_of at l s o) xs → LevelsLeft text (behind_of at l s Nothing) xs
   nothing_more Nothing xs h k = k
-  nothing_more (One e) xs h k = not_done (sym h)
-  nothing_more (Two d e) xs h k = not_done (sym h)
+  nothing_more (One e) xs h k = none_some h
+  nothing_more (Two d e) xs h k = none_some h
 
--- what is still to come at `from` is still to come behind the line l
-pub record Still (text : List ℕ) (from : Behind) (at : ℕ) (l : Level) (s : Bits) : Type 0 where
-  pub still : (xs : List Record) → LevelsLeft text from xs → LevelsLeft text (behind_of at l s Nothing) xs
+-- what is still to come at `from` is still to come at `to`
+pub record Still (text : List ℕ) (from to : Behind) : Type 0 where
+  pub still : (xs : List Record) → LevelsLeft text from xs → LevelsLeft text to xs
 
 -- where the search begins nothing is passed over yet
-pub levels_begin : {text : List ℕ} {at : ℕ} {l : Level} {s : Bits} → Still text (behind_of at l s Nothing) at l s
+pub levels_begin : {text : List ℕ} {from : Behind} → Still text from from
 levels_begin = record { still = λ xs k. k }
 
-module _ {text : List ℕ} {from : Behind} where
-  pub levels_first : {r : LevelFeed} {x : Record} {p : Behind} → r ≡ give_of from → r ≡ LevelFeed.Next x p → FeedsLevels text from (LevelFeed.Next x p)
-  levels_first {r} {x} {p} h t = record { feeds = λ trace xs k. given text from.at from.last from.bits from.more x p trace xs (sym h ∙ t) k }
+module _ {text : List ℕ} {from to : Behind} (still : Still text from to) where
+  pub levels_found : {x : Record} {p : Behind} → Some (x, p) ≡ give_of to → FeedsLevels text from (Some (x, p))
+  levels_found {x} {p} h = record { feeds = λ trace xs k. given text to.at to.last to.bits to.more x p trace xs (sym h) (still.still xs k) }
 
-  pub levels_start : {r : LevelFeed} → r ≡ give_of from → r ≡ LevelFeed.Done → Still text from from.at from.last from.bits
-  levels_start h t = record { still = λ xs k. nothing_more text from.at from.last from.bits from.more xs (sym h ∙ t) k }
+  module _ (h : None ≡ give_of to) where
+    bare : (xs : List Record) → LevelsLeft text from xs → LevelsLeft text (behind_of to.at to.last to.bits Nothing) xs
+    bare xs k = nothing_more text to.at to.last to.bits to.more xs h (still.still xs k)
 
-  module _ {at : ℕ} {a : Level} {s : Bits} (still : Still text from at a s) where
-    -- what is fed from there is fed from `from` on
-    pub levels_from : {r : LevelFeed} → FeedsLevels text (behind_of at a s Nothing) r → FeedsLevels text from r
-    levels_from k = record { feeds = λ trace xs z. k.feeds trace xs (still.still xs z) }
-
-    pub levels_none : at < length text → ((l : Level) → LevelOk l → Stands text at (spelled_level l) → ⊥) → FeedsLevels text from LevelFeed.Done
+    pub levels_none : to.at < length text → ((l : Level) → LevelOk l → Stands text to.at (spelled_level l) → ⊥) → FeedsLevels text from None
     unfolding levels
-    levels_none h n = record { feeds = λ trace xs k. let z = still.still xs k in absurd (not_none z.ls z.from h n) }
+    levels_none lt n = record { feeds = λ trace xs k. let z = bare xs k in absurd (not_none z.ls z.from lt n) }
 
-    pub levels_end : length text ≤ at → FeedsLevels text from LevelFeed.Done
+    pub levels_end : length text ≤ to.at → FeedsLevels text from None
     unfolding decoded_from events_of
-    levels_end h = record {
+    levels_end le = record {
       feeds = λ trace xs k.
-          let z = still.still xs k in
-          subst (Gives text trace (level_feed LevelFeed.Done)) (sym (z.is ∙ ap (decoded_from s a) (at_end some_level z.ls z.from h))) done;
+          let z = bare xs k in
+          subst (Gives text trace (level_feed None)) (sym (z.is ∙ ap (decoded_from to.bits to.last) (at_end some_level z.ls z.from le))) done;
     }
 
-    module _ {l : Level} {p : ℕ} (g : Got spelled_level LevelOk text at l p) {r : LevelFeed} {t : Turn} (turn : t ≡ turn_of s a l) (give : r ≡ give_by p l t.bits t.out) where
-      here : (xs : List Record) → LevelsLeft text from xs → LevelsLeft text (behind_of p l t.bits t.out) xs
-      unfolding decoded_from events_of levels
-      here xs k =
-          let z = still.still xs k in
+    pub levels_on : {l : Level} {p : ℕ} → Got spelled_level LevelOk text to.at l p → {t : Turn} → t ≡ turn_of to.bits to.last l → Still text from (behind_of p l t.bits t.out)
+    unfolding decoded_from events_of levels
+    levels_on {l} {p} g {t} turn = record {
+      still = λ xs k.
+          let z = bare xs k in
           let w = took some_level z.ls z.from g in
           subst (λ (u : Turn). LevelsLeft text (behind_of p l u.bits u.out) xs) (sym turn)
-          (record { ls = w.0; from = w.1; is = z.is ∙ ap (decoded_from s a) w.2 })
-
-      pub levels_found : {x : Record} {q : Behind} → r ≡ LevelFeed.Next x q → FeedsLevels text from (LevelFeed.Next x q)
-      levels_found {x} {q} h = record { feeds = λ trace xs k. given text p l t.bits t.out x q trace xs (sym give ∙ h) (here xs k) }
-
-      pub levels_on : r ≡ LevelFeed.Done → Still text from p l t.bits
-      levels_on h = record { still = λ xs k. nothing_more text p l t.bits t.out xs (sym give ∙ h) (here xs k) }
+          (record { ls = w.0; from = w.1; is = z.is ∙ ap (decoded_from to.bits to.last) w.2 });
+    }
 
 -- ---- the logger's trace
 part_in : (w : Part) (r : Record) (rs : List Record) → is_of w r.event ≡ true → part_of w (r ∷ rs) ≡ r ∷ part_of w rs
@@ -117,24 +108,24 @@ module _ {text : List ℕ} {w : Part} {from : ℕ} where
     pub trace_pass : {letter to : ℕ} → letter ≡ letter_of w → Passes text letter at to → StillTrace text w from to
     trace_pass e p = record { still = λ xs k. p.passes w (sym e) xs (s.still xs k) }
 
-    pub trace_none : at < length text → ((r : Record) → RecordOk r → Stands text at (spelled r) → ⊥) → FeedsTrace text w from TraceFeed.Done
+    pub trace_none : at < length text → ((r : Record) → RecordOk r → Stands text at (spelled r) → ⊥) → FeedsTrace text (within_of w from) None
     unfolding records
     trace_none h n = record { feeds = λ levels xs k. let z = s.still xs k in absurd (not_none z.rs z.from h n) }
 
-    pub trace_end : length text ≤ at → FeedsTrace text w from TraceFeed.Done
+    pub trace_end : length text ≤ at → FeedsTrace text (within_of w from) None
     unfolding filter
     trace_end h = record {
-      feeds = λ levels xs k. let z = s.still xs k in subst (Gives levels text (trace_feed w TraceFeed.Done)) (sym (z.is ∙ ap (part_of w) (at_end some_record z.rs z.from h))) done;
+      feeds = λ levels xs k. let z = s.still xs k in subst (Gives levels text (trace_feed None)) (sym (z.is ∙ ap (part_of w) (at_end some_record z.rs z.from h))) done;
     }
 
     module _ {r : Record} {p : ℕ} (g : Got spelled RecordOk text at r p) where
-      pub trace_found : is_of w r.event ≡ true → FeedsTrace text w from (TraceFeed.Next r p)
+      pub trace_found : is_of w r.event ≡ true → FeedsTrace text (within_of w from) (Some (r, within_of w p))
       unfolding PlaceLeft records
       trace_found e = record {
         feeds = λ levels xs k.
             let z = s.still xs k in
             let t = took some_record z.rs z.from g in
-            subst (Gives levels text (trace_feed w (TraceFeed.Next r p))) (sym (z.is ∙ ap (part_of w) t.2 ∙ part_in w r t.0 e))
+            subst (Gives levels text (trace_feed (Some (r, within_of w p)))) (sym (z.is ∙ ap (part_of w) t.2 ∙ part_in w r t.0 e))
             (next r (in_trace w p) (part_of w t.0) (record { rs = t.0; from = t.1; is = refl }));
       }
 
@@ -152,6 +143,14 @@ pub feed_levels : {levels trace : List ℕ} {p : Behind} {r : LevelFeed} → Fee
 unfolding PlaceLeft
 feed_levels {trace = trace} f = record { feeds = f.feeds trace }
 
-pub feed_trace : {levels trace : List ℕ} {w : Part} {at : ℕ} {r : TraceFeed} → FeedsTrace trace w at r → Feeds levels trace (in_trace w at) (trace_feed w r)
+pub feed_trace : {levels trace : List ℕ} {p : Within} {r : TraceFeed} → FeedsTrace trace p r → Feeds levels trace (in_trace p.part p.at) (trace_feed r)
 unfolding PlaceLeft
 feed_trace {levels} f = record { feeds = f.feeds levels }
+
+pub levels_number : (f : LevelFeed) → number_ahead f ≡ head_number (level_feed f)
+levels_number None = refl
+levels_number (Some (r, p)) = refl
+
+pub trace_number : (f : TraceFeed) → number_ahead f ≡ head_number (trace_feed f)
+trace_number None = refl
+trace_number (Some (r, p)) = refl

@@ -2,6 +2,5 @@
 pub mod FeedLaws
 pub mod PassLaws
 pub mod WeaveLaws
-pub mod LeastLaws
 pub mod StartLaws
 pub mod WovenLaws

@@ -2,6 +2,7 @@
 use Prim.Native.Nat.{ℕ, ◌<◌}
 use native.Mathlib.Omega.{arith}
 use mathlib.Core.Path.{◌≡◌, refl, sym, ap, subst, ◌∙◌}
+use denote.Ref.{Bor}
 use mathlib.Core.List.{List, [], ◌∷◌, ◌++◌, append-nil}
 use lib.ListN.{length, drop}
 use lib.Seq.{drop-append_seam}
@@ -28,10 +29,9 @@ use Rattle.capture.specs.Merge.{number_of}
 use Rattle.capture.specs.OneByOne.{From, records, levels}
 use Rattle.capture.proofs.Parts.{part_rising}
 use Rattle.capture.proofs.Reading.{place_small, flash_rises, eeprom_rises, all_fit}
-use Rattle.weave.specs.declared.feed.LevelFeed.{LevelFeed}
-use Rattle.weave.specs.declared.feed.TraceFeed.{TraceFeed}
-use Rattle.weave.specs.Feeding.{behind_of, level_feed, trace_feed, LevelsLeft, TraceLeft, FeedsLevels, FeedsTrace}
-use Rattle.weave.specs.Weaving.{above, head_number, numbers_of, joined, Each, Starts}
+use Rattle.weave.specs.Feeding.{LevelFeed, TraceFeed, behind_of, within_of, LevelsLeft, TraceLeft, FeedsLevels, FeedsTrace}
+use Rattle.weave.proofs.FeedLaws.{levels_number, trace_number}
+use Rattle.weave.specs.Weaving.{above, number_ahead, numbers_of, joined, Each, Starts}
 
 all_levels : (ts : List Record) (p : Before) (ls : List Level) → Faultless ts p ls → All LevelOk ls
 unfolding Faultless All
@@ -61,32 +61,41 @@ module _ {text trace : List ℕ} {a : Level} {at first : ℕ} {b : Board} {rs : 
   trace_left : (p : Part) → TraceLeft trace p first (part_of p rs)
   trace_left p = record { rs = rs; from = records_from; is = refl }
 
-pub start_law : {text trace : List ℕ} {a : Level} {at first : ℕ} {u v : LevelFeed} {x y z : TraceFeed} {i j k l n : ℕ} →
-    FeedsLevels text (behind_of at a flash_start Nothing) u → FeedsLevels text (behind_of at a wires_start Nothing) v → FeedsTrace trace FlashEnds first x → FeedsTrace trace EepromEnds first y → FeedsTrace trace Lines first z →
-    i ≡ head_number (level_feed u) → j ≡ head_number (level_feed v) → k ≡ head_number (trace_feed FlashEnds x) → l ≡ head_number (trace_feed EepromEnds y) → n ≡ head_number (trace_feed Lines z) →
-    Starts text trace a at first (record { numbers = i ∷ j ∷ k ∷ l ∷ n ∷ []; flash = u; eeprom = v; flash_ends = x; eeprom_ends = y; lines = z })
+pub start_law : {lr tr : Bor (List ℕ)} {a : Level} {at first : ℕ} {u v : LevelFeed} {x y z : TraceFeed} →
+    FeedsLevels lr.now (behind_of at a flash_start Nothing) u → FeedsLevels lr.now (behind_of at a wires_start Nothing) v →
+    FeedsTrace tr.now (within_of FlashEnds first) x → FeedsTrace tr.now (within_of EepromEnds first) y → FeedsTrace tr.now (within_of Lines first) z →
+    Starts lr.now tr.now a at first (record {
+      levels = lr;
+      trace = tr;
+      numbers = number_ahead u ∷ number_ahead v ∷ number_ahead x ∷ number_ahead y ∷ number_ahead z ∷ [];
+      flash = u;
+      eeprom = v;
+      flash_ends = x;
+      eeprom_ends = y;
+      lines = z;
+    })
 unfolding Each joined numbers_of
-start_law {text} {trace} {a} {at} {first} fu fv fx fy fz hu hv hx hy hz = record {
+start_law {lr} {tr} {a} {at} {first} {u} {v} {x} {y} {z} fu fv fx fy fz = record {
   starts = λ b rs ls m q f c e p.
       let flash = flash_of (a ∷ ls) in
       let eeprom = eeprom_of (a ∷ ls) in
       let back = q.acceptable.never_back in
       record {
         parts = flash ∷ eeprom ∷ part_of FlashEnds rs ∷ part_of EepromEnds rs ∷ part_of Lines rs ∷ [];
-        numbers = λ t. hu t ∷ hv t ∷ hx t ∷ hy t ∷ hz t ∷ [];
+        numbers = λ t. levels_number u t ∷ levels_number v t ∷ trace_number x t ∷ trace_number y t ∷ trace_number z t ∷ [];
         each = (
-          fu.feeds trace flash (capture_left q f c e flash_start),
+          fu.feeds tr.now flash (capture_left q f c e flash_start),
           flash_rises (taken_of rs) a ls c.faultless,
           (
-            fv.feeds trace eeprom (capture_left q f c e wires_start),
+            fv.feeds tr.now eeprom (capture_left q f c e wires_start),
             eeprom_rises (taken_of rs) a ls c.faultless,
             (
-              fx.feeds text (part_of FlashEnds rs) (trace_left q f c e FlashEnds),
+              fx.feeds lr.now (part_of FlashEnds rs) (trace_left q f c e FlashEnds),
               part_rising FlashEnds rs back,
               (
-                fy.feeds text (part_of EepromEnds rs) (trace_left q f c e EepromEnds),
+                fy.feeds lr.now (part_of EepromEnds rs) (trace_left q f c e EepromEnds),
                 part_rising EepromEnds rs back,
-                (fz.feeds text (part_of Lines rs) (trace_left q f c e Lines), part_rising Lines rs back, tt),
+                (fz.feeds lr.now (part_of Lines rs) (trace_left q f c e Lines), part_rising Lines rs back, tt),
               ),
             ),
           ),

@@ -3,18 +3,17 @@ use Prim.Native.Nat.{ℕ, zero, suc, ◌≤◌, ◌<◌}
 use native.Mathlib.Omega.{arith}
 use mathlib.Core.Path.{◌≡◌, refl, sym, ap, ap₂, subst, ◌∙◌}
 use mathlib.Core.List.{List, [], ◌∷◌, ◌++◌, append_assoc}
+use Rattle.std.specs.Prelude.{Some, None}
 use lib.ListN.{length, get_or, set}
 use Rattle.law.specs.Words.{All, Rising}
 use Rattle.law.specs.Lists.{all_map, all_append}
 use Rattle.law.specs.Order.{InOrder}
 use Rattle.law.specs.Ordering.{order_next, order_all}
 use Rattle.record.specs.declared.Record.{Record}
-use Rattle.field.proofs.Answers.{zero_one}
 use Rattle.capture.specs.Merge.{number_of}
 use Rattle.weave.specs.declared.Weave.{Weave}
-use Rattle.weave.specs.declared.Head.{Head}
 use Rattle.weave.specs.Feeding.{Place, Feed, over, ahead, PlaceLeft, Gives, done, next, Feeds}
-use Rattle.weave.specs.Weaving.{above, head_number, feeds_of, numbers_of, number_at, Least, joined, Each, Left, WovenBy, nothing, following, Weaves, Takes}
+use Rattle.weave.specs.Weaving.{above, head_number, feeds_of, numbers_of, number_at, Least, joined, Each, Left, WovenBy, nothing, following, Weaves}
 
 -- ---- the numbers beside the feeds
 as_many : (fs : List Feed) → length (numbers_of fs) ≡ length fs
@@ -109,34 +108,40 @@ below_tail : (x : Record) (xs : List Record) → All (λ (v : Record). number_of
 unfolding All
 below_tail x xs h = h.1
 
-module _ {levels trace : List ℕ} (w : Weave) {i : ℕ} (k : Least w.numbers i) where
+module _ (w : Weave) {i : ℕ} (k : Least w.numbers i) where
+  abbrev levels : List ℕ
+  levels = w.levels.now
+
+  abbrev trace : List ℕ
+  trace = w.trace.now
+
   -- the same of the numbers of the heads, which they are
-  least_head : (m : List Record) → Left levels trace w m → Least (numbers_of (feeds_of w)) i
+  least_head : (m : List Record) → Left w m → Least (numbers_of (feeds_of w)) i
   least_head m l = subst (λ (ns : List ℕ). Least ns i) l.numbers k
 
-  within : (m : List Record) → Left levels trace w m → i < length (feeds_of w)
+  within : (m : List Record) → Left w m → i < length (feeds_of w)
   within m l = omega (arith, (least_head m l).small, as_many (feeds_of w))
 
-  least_of : (m : List Record) (l : Left levels trace w m) (n : ℕ) → head_number (get_or (feeds_of w) i over) ≡ n → (j : ℕ) → j < length (feeds_of w) → n ≤ number_at (numbers_of (feeds_of w)) j
+  least_of : (m : List Record) (l : Left w m) (n : ℕ) → head_number (get_or (feeds_of w) i over) ≡ n → (j : ℕ) → j < length (feeds_of w) → n ≤ number_at (numbers_of (feeds_of w)) j
   least_of m l n e j q = omega (arith, (least_head m l).least j (omega (arith, as_many (feeds_of w))), own_number (feeds_of w) i (within m l), e)
 
   -- no feed has a head: nothing is left
-  high : get_or (feeds_of w) i over ≡ over → (m : List Record) → Left levels trace w m → All (λ (r : Record). above ≤ number_of r) m
+  high : get_or (feeds_of w) i over ≡ over → (m : List Record) → Left w m → All (λ (r : Record). above ≤ number_of r) m
   high e m l =
       order_all number_of (λ (r : Record). above ≤ number_of r) l.ordered
       (all_feeds (λ n. above ≤ n) (λ n j le q. omega arith) levels trace (feeds_of w) l.parts l.each (least_of m l above (ap head_number e)))
 
-  woven_done : {v : Weave} → get_or (feeds_of w) i over ≡ over → Weaves levels trace w (record { head = Head.Done; left = v })
-  woven_done {v} e = record { weaves = λ m l. subst (WovenBy levels trace v Head.Done) (sym (no_head m (high e m l) l.below)) nothing }
+  pub woven_done : {v : Weave} → get_or (feeds_of w) i over ≡ over → Weaves w None v
+  woven_done {v} e = record { weaves = λ m l. subst (WovenBy v None) (sym (no_head m (high e m l) l.below)) nothing }
 
   module _ (v : Weave) {x : Record} {p : Place} {f : Feed} {n : ℕ} (e : get_or (feeds_of w) i over ≡ ahead x p) (g : Feeds levels trace p f) (is-head : n ≡ head_number f)
-      (ns : v.numbers ≡ set w.numbers i n) (fs : feeds_of v ≡ set (feeds_of w) i f) where
-    rest_numbers : (m : List Record) → Left levels trace w m → v.numbers ≡ numbers_of (feeds_of v)
+      (ns : v.numbers ≡ set w.numbers i n) (fs : feeds_of v ≡ set (feeds_of w) i f) (ls : levels ≡ v.levels.now) (ts : trace ≡ v.trace.now) where
+    rest_numbers : (m : List Record) → Left w m → v.numbers ≡ numbers_of (feeds_of v)
     rest_numbers m l = ns ∙ ap₂ (λ (l : List ℕ) (c : ℕ). set l i c) l.numbers is-head ∙ put_number (feeds_of w) i f ∙ ap numbers_of (sym fs)
 
-    put_next : (m : List Record) (l : Left levels trace w m) (z : Among levels trace (feeds_of w) l.parts i) (c : Feed) (own : List Record) → c ≡ ahead x p → Gives levels trace c own → Rising number_of own
-        → joined l.parts ≡ z.front ++ (own ++ z.behind) → WovenBy levels trace v (Head.Next x) m
-    put_next m l z c own h done r is = absurd (zero_one (cc))
+    put_next : (m : List Record) (l : Left w m) (z : Among levels trace (feeds_of w) l.parts i) (c : Feed) (own : List Record) → c ≡ ahead x p → Gives levels trace c own → Rising number_of own
+        → joined l.parts ≡ z.front ++ (own ++ z.behind) → WovenBy v (Some x) m
+    put_next m l z c own h done r is = absurd (cc)
     put_next m l z c own h (next y q xs left) r is =
         let same : y ≡ x = cc in
         let place : q ≡ p = cc in
@@ -149,27 +154,20 @@ module _ {levels trace : List ℕ} (w : Weave) {i : ℕ} (k : Least w.numbers i)
         (all_append _ xs z.behind (rising_head x xs r') (z.after (λ n. number_of x ≤ n) (λ n j le q. omega arith) (least_of m l (number_of x) (ap head_number e))))
         (subst (λ (v : List Record). InOrder number_of v m) is' l.ordered) in
         let u = z.put f xs (g.feeds xs (subst (λ (v : Place). PlaceLeft levels trace v xs) place left)) (rising_tail x xs r') in
-        subst (WovenBy levels trace v (Head.Next x)) (sym o.1)
+        subst (WovenBy v (Some x)) (sym o.1)
         (following x o.0 (record {
           parts = u.0;
           numbers = rest_numbers m l;
-          each = subst (λ (l : List Feed). Each levels trace l u.0) (sym fs) u.1;
+          each =
+              subst (λ (t : List ℕ). Each v.levels.now t (feeds_of v) u.0) ts
+              (subst (λ (t : List ℕ). Each t trace (feeds_of v) u.0) ls (subst (λ (l : List Feed). Each levels trace l u.0) (sym fs) u.1));
           ordered = subst (λ (v : List Record). InOrder number_of v o.0) (sym u.2) o.2;
           below = below_tail x o.0 (subst (All (λ (v : Record). number_of v < above)) o.1 l.below);
         }))
 
-    woven_next : Weaves levels trace w (record { head = Head.Next x; left = v })
+    pub woven_next : Weaves w (Some x) v
     woven_next = record {
       weaves = λ m l.
           let z = among (feeds_of w) l.parts i l.each (within m l) in
           put_next m l z (get_or (feeds_of w) i over) z.own e z.gives z.rises z.is;
     }
-
--- ---- one feed is taken from
-module _ {levels trace : List ℕ} (w : Weave) {i : ℕ} where
-  pub take_done : {v : Weave} → get_or (feeds_of w) i over ≡ over → Takes levels trace w i (record { head = Head.Done; left = v })
-  take_done e = record { takes = λ k. woven_done w k e }
-
-  pub take_next : (v : Weave) {x : Record} {p : Place} {f : Feed} {n : ℕ} → get_or (feeds_of w) i over ≡ ahead x p → Feeds levels trace p f → n ≡ head_number f → v.numbers ≡ set w.numbers i n → feeds_of v ≡ set (feeds_of w) i f →
-      Takes levels trace w i (record { head = Head.Next x; left = v })
-  take_next v e g h ns fs = record { takes = λ k. woven_next w k v e g h ns fs }

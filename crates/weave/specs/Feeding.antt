@@ -1,5 +1,5 @@
 -- What a feed still has to give.
-use Rattle.std.specs.Prelude.{ℕ, ◌≡◌, List, [], ◌∷◌, ◌++◌}
+use Rattle.std.specs.Prelude.{ℕ, ◌≡◌, Option, Some, None, List, [], ◌∷◌, ◌++◌}
 use Rattle.record.specs.declared.Record.{Record}
 use Rattle.level.specs.declared.Level.{Level}
 use Rattle.decode.specs.declared.Out.{Out}
@@ -12,17 +12,25 @@ use Rattle.capture.specs.declared.Part.TheVariants.{FlashEnds, EepromEnds, Lines
 use Rattle.capture.specs.Taken.{part_of}
 use Rattle.capture.specs.OneByOne.{From, records, levels}
 use Rattle.weave.specs.declared.feed.Behind.{Behind}
-use Rattle.weave.specs.declared.feed.LevelFeed.{LevelFeed}
-use Rattle.weave.specs.declared.feed.TraceFeed.{TraceFeed}
+use Rattle.weave.specs.declared.feed.Within.{Within}
+
+abbrev pub LevelFeed : Type 0
+LevelFeed = Option (Record × Behind)
+
+abbrev pub TraceFeed : Type 0
+TraceFeed = Option (Record × Within)
+
+abbrev pub within_of : Part → ℕ → Within
+within_of part at = record { part = part; at = at }
 
 abbrev pub behind_of : ℕ → Level → Bits → Out → Behind
 behind_of at l s o = record { at = at; last = l; bits = s; more = o }
 
 -- what the line l still gives
 abbrev pub give_by : ℕ → Level → Bits → Out → LevelFeed
-give_by at l s Nothing = LevelFeed.Done
-give_by at l s (One e) = LevelFeed.Next (record_at l.stamp e) (behind_of at l s Nothing)
-give_by at l s (Two d e) = LevelFeed.Next (record_at l.stamp d) (behind_of at l s (One e))
+give_by at l s Nothing = None
+give_by at l s (One e) = Some (record_at l.stamp e, behind_of at l s Nothing)
+give_by at l s (Two d e) = Some (record_at l.stamp d, behind_of at l s (One e))
 
 abbrev pub give_of : Behind → LevelFeed
 give_of p = give_by p.at p.last p.bits p.more
@@ -59,16 +67,16 @@ pub data Feed : Type 0 where
   ahead : Record → Place → Feed
 
 abbrev pub level_feed : LevelFeed → Feed
-level_feed LevelFeed.Done = over
-level_feed (LevelFeed.Next r p) = ahead r (in_levels p)
+level_feed None = over
+level_feed (Some (r, p)) = ahead r (in_levels p)
 
-abbrev pub trace_feed : Part → TraceFeed → Feed
-trace_feed part TraceFeed.Done = over
-trace_feed part (TraceFeed.Next r at) = ahead r (in_trace part at)
+abbrev pub trace_feed : TraceFeed → Feed
+trace_feed None = over
+trace_feed (Some (r, p)) = ahead r (in_trace p.part p.at)
 
 unfoldable pub PlaceLeft : List ℕ → List ℕ → Place → List Record → Type 0
-PlaceLeft levels trace (in_levels p) xs = LevelsLeft levels p xs
-PlaceLeft levels trace (in_trace part at) xs = TraceLeft trace part at xs
+PlaceLeft levels' trace (in_levels p) xs = LevelsLeft levels' p xs
+PlaceLeft levels' trace (in_trace part at) xs = TraceLeft trace part at xs
 
 -- a feed that still has the records xs to give
 pub data Gives (levels trace : List ℕ) : Feed → List Record → Type 0 where
@@ -79,8 +87,8 @@ pub data Gives (levels trace : List ℕ) : Feed → List Record → Type 0 where
 pub record FeedsLevels (levels : List ℕ) (p : Behind) (r : LevelFeed) : Type 0 where
   pub feeds : (trace : List ℕ) (xs : List Record) → LevelsLeft levels p xs → Gives levels trace (level_feed r) xs
 
-pub record FeedsTrace (trace : List ℕ) (part : Part) (at : ℕ) (r : TraceFeed) : Type 0 where
-  pub feeds : (levels : List ℕ) (xs : List Record) → TraceLeft trace part at xs → Gives levels trace (trace_feed part r) xs
+pub record FeedsTrace (trace : List ℕ) (p : Within) (r : TraceFeed) : Type 0 where
+  pub feeds : (levels : List ℕ) (xs : List Record) → TraceLeft trace p.part p.at xs → Gives levels trace (trace_feed r) xs
 
 pub record Feeds (levels trace : List ℕ) (p : Place) (r : Feed) : Type 0 where
   pub feeds : (xs : List Record) → PlaceLeft levels trace p xs → Gives levels trace r xs

@@ -1,7 +1,8 @@
-// A feed: the records of one text and one channel, one after another. It holds its next record, and the place from which it goes on.
-// The feeds of the two texts are of two types, since one of the trace is much smaller: each record copies all feeds.
-ghost use Rattle.std.specs.Prelude.{◌≡◌, ◌≤◌};
+// A feed: the records of one text and one channel, one after another. It holds its next record, and the place from which it goes on; or nothing is left.
+ghost use Rattle.std.specs.Prelude.{◌≡◌, ◌≤◌, List, ℕ, Option};
+ghost use Rattle.record.specs.declared.Record.{Record};
 ghost use Rattle.weave.specs.Feeding.{give_of, letter_of, Passes, FeedsLevels, FeedsTrace};
+ghost use Rattle.weave.specs.Weaving.{number_ahead, TakesHead};
 
 use capture::Part;
 use decode::{Bits, Out};
@@ -9,6 +10,15 @@ use field::Cursor;
 use level::{Level, ReadLevel};
 use line::ReadRecord;
 use record::Record;
+
+// From where a feed goes on in its text.
+pub trait Source: Copy {
+    // What the next record is, and the place behind it.
+    ghost feeds: { List ℕ → Self → Option (Record × Self) → Type 0 };
+
+    fn next(self, text: &[u8]) -> Option<(Record, Self)>
+        ensures { feeds text.now self result };
+}
 
 // Behind a line of the capture: the place of the next line, the line itself, the bits so far, and what the line still gives.
 #[derive(Clone, Copy)]
@@ -19,87 +29,59 @@ pub struct Behind {
     pub more: Out,
 }
 
-// The next record of the capture, and where its feed goes on; or nothing is left.
+// In the logger's trace, and which part of what is taken from it.
 #[derive(Clone, Copy)]
-pub enum LevelFeed {
-    Done,
-    Next(Record, Behind),
+pub struct Within {
+    pub part: Part,
+    pub at: usize,
 }
 
-// The next record of one part of the logger's trace, and the place after it; or nothing is left.
-#[derive(Clone, Copy)]
-pub enum TraceFeed {
-    Done,
-    Next(Record, usize),
-}
+// The feeds of the two texts are of two types: one of the trace is much smaller.
+pub type LevelFeed = Option<(Record, Behind)>;
 
-// What a line of the capture still gives.
-fn give(p: Behind) -> LevelFeed
-    ensures { result ≡ give_of p }
-{
-    let last = p.last;
-    let bits = p.bits;
-    let more = p.more;
-    match more {
-        Out::Nothing => LevelFeed::Done,
-        Out::One(e) => LevelFeed::Next(
-            Record {
-                stamp: last.stamp,
-                event: e,
-            },
-            Behind {
-                at: p.at,
-                last: last,
-                bits: bits,
-                more: Out::Nothing,
-            },
-        ),
-        Out::Two(d, e) => LevelFeed::Next(
-            Record {
-                stamp: last.stamp,
-                event: d,
-            },
-            Behind {
-                at: p.at,
-                last: last,
-                bits: bits,
-                more: Out::One(e),
-            },
-        ),
+pub type TraceFeed = Option<(Record, Within)>;
+
+impl Behind {
+    // What the line still gives.
+    fn give(self) -> LevelFeed
+        ensures { result ≡ give_of self }
+    {
+        let (event, more) = match self.more {
+            Out::Nothing => return None,
+            Out::One(e) => (e, Out::Nothing),
+            Out::Two(d, e) => (d, Out::One(e)),
+        };
+        let stamp = self.last.stamp;
+        Some((Record { stamp, event }, Behind { more, ..self }))
     }
 }
 
-// The next record of the capture.
-pub fn feed_levels(levels: &[u8], from: Behind) -> LevelFeed
-    ensures { FeedsLevels levels.now from result }
-{
-    if let LevelFeed::Next(rec, behind) = give(from) {
-        return LevelFeed::Next(rec, behind);
-    }
-    let mut at = from.at;
-    let mut last = from.last;
-    let mut bits = from.bits;
-    while at < levels.len() {
-        let ReadLevel::Value(l, next) = level::read_level(levels, Cursor { at }) else {
-            return LevelFeed::Done;
-        };
-        let turn = bits.turn(last, l);
-        let turned = turn.bits;
-        let out = turn.out;
-        let here = Behind {
-            at: next.at,
-            last: l,
-            bits: turned,
-            more: out,
-        };
-        if let LevelFeed::Next(rec, behind) = give(here) {
-            return LevelFeed::Next(rec, behind);
+impl Source for Behind {
+    ghost feeds = { FeedsLevels };
+
+    // The next record of the capture.
+    fn next(self, levels: &[u8]) -> LevelFeed {
+        let mut from = self;
+        loop {
+            if let Some(next) = from.give() {
+                return Some(next);
+            }
+            if levels.len() <= from.at {
+                return None;
+            }
+            let ReadLevel::Value(last, next) = level::read_level(levels, Cursor { at: from.at })
+            else {
+                return None;
+            };
+            let turn = from.bits.turn(from.last, last);
+            from = Behind {
+                at: next.at,
+                last,
+                bits: turn.bits,
+                more: turn.out,
+            };
         }
-        at = next.at;
-        last = l;
-        bits = turned;
     }
-    LevelFeed::Done
 }
 
 // The letter of a part's channel.
@@ -118,36 +100,54 @@ fn line_with(trace: &[u8], from: usize, letter: u8) -> usize
     ensures { Passes trace.now letter from result × (from ≤ result) }
 {
     let mut start = from;
-    let mut k = from;
-    while k < trace.len() {
+    for k in from..trace.len() {
         let b = trace[k];
         if b == letter {
             return start;
         }
-        k += 1;
         if b == b'\n' {
-            start = k;
-            continue;
+            start = k + 1;
         }
     }
     start
 }
 
-// The next record of one part of what is taken from the logger's trace.
-pub fn feed_trace(trace: &[u8], part: Part, from: usize) -> TraceFeed
-    ensures { FeedsTrace trace.now part from result }
-{
-    let letter = letter_of(part);
-    let mut at = line_with(trace, from, letter);
-    while at < trace.len() {
-        let ReadRecord::Value(rec, next) = text::record_at(trace, at) else {
-            return TraceFeed::Done;
-        };
-        let event = rec.event;
-        if capture::is_of(part, event) {
-            return TraceFeed::Next(rec, next.at);
+impl Source for Within {
+    ghost feeds = { FeedsTrace };
+
+    // The next record of one part of what is taken from the logger's trace.
+    fn next(self, trace: &[u8]) -> TraceFeed {
+        let part = self.part;
+        let letter = letter_of(part);
+        let mut at = line_with(trace, self.at, letter);
+        while at < trace.len() {
+            let ReadRecord::Value(rec, next) = text::record_at(trace, at) else {
+                return None;
+            };
+            if capture::is_of(part, rec.event) {
+                return Some((rec, Within { part, at: next.at }));
+            }
+            at = line_with(trace, next.at, letter);
         }
-        at = line_with(trace, next.at, letter);
+        None
     }
-    TraceFeed::Done
+}
+
+// The number of a feed's head; a feed that has none is above all records.
+pub fn number_ahead<P: Source>(feed: &Option<(Record, P)>) -> u64
+    ensures { result ≡ number_ahead feed.now }
+{
+    match feed {
+        None => crate::ABOVE,
+        Some((rec, _)) => crate::number_of(*rec),
+    }
+}
+
+// A feed's head, and the number of the one behind it: the feed goes on.
+pub fn take_head<P: Source>(feed: &mut Option<(Record, P)>, text: &[u8]) -> Option<(Record, u64)>
+    ensures { TakesHead (P.feeds text.now) feed.old result feed.new }
+{
+    let (rec, from) = (*feed)?;
+    *feed = from.next(text);
+    Some((rec, number_ahead(feed)))
 }

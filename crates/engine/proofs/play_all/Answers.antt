@@ -1,17 +1,33 @@
-use Rattle.std.proofs.Common.{refl, arith}
-use Rattle.engine.proofs.PlayLaws.{ongoing_start, ongoing_done, ongoing_end, ongoing_next}
+use Rattle.std.proofs.Common.{refl, rules}
+use Rattle.engine.proofs.PlayLaws.{ongoing_start, ongoing_end, ongoing_next}
 use Rattle.engine.proofs.play_all.Goals as goal
 
-pub loop-k-init : goal.loop-k-init
-loop-k-init c = (omega arith, refl, refl, refl, refl, ongoing_start _ _ _ _ _ _ c.start-cur.ensures)
+pub loop-rec-init : goal.loop-rec-init
+loop-rec-init c =
+    let items = c.take-rec-items in
+    record {
+      can = search rules;
+      ends = search rules;
+      flash_same = refl;
+      flash_mask_same = refl;
+      eeprom_same = refl;
+      eeprom_mask_same = refl;
+      ongoing =
+          rw c.into_iter-rec-iterator.ensures.into_iter_gives (ongoing_start items.result _ _ _ items.ensures.source items.ensures.count c.start-cur.ensures);
+    }
 
-pub returns-in_default : goal.returns-in_default
-returns-in_default c = ongoing_done c.loop-k.invariant.5 c.next_woven-woven.ensures c.in_default.is
-
-pub loop-k-preserved : goal.loop-k-preserved
-loop-k-preserved c =
-    let i = c.loop-k.invariant in
-    (omega arith, omega arith, omega arith, omega arith, omega arith, ongoing_next i.5 c.next_woven-woven.ensures c.in-Next.is c.play-played.ensures)
+pub loop-rec-preserved : goal.loop-rec-preserved
+loop-rec-preserved c =
+    let i = c.loop-rec.invariant in
+    record {
+      can = search rules;
+      ends = search rules;
+      flash_same = search rules;
+      flash_mask_same = search rules;
+      eeprom_same = search rules;
+      eeprom_mask_same = search rules;
+      ongoing = ongoing_next i.ongoing c.next.new.self c.in-Some.ensures.steps c.play-played.ensures;
+    }
 
 pub returns : goal.returns
-returns c = ongoing_end c.loop-k.invariant.5 c.loop-k-test.false
+returns c = ongoing_end c.loop-rec.invariant.ongoing c.next.new.self c.in-None.ensures.steps

@@ -11,5 +11,5 @@ returns-in-Refused c =
 
 pub returns-in-Both : goal.returns-in-Both
 returns-in-Both c =
-    call_both c.fits_images.ensures (ap not c.if-not-fits_images.false) c.judge-judged.ensures c.in-Both.is c.start_weave-start.ensures c.play_all.ensures
+    call_both c.fits_images.ensures (ap not c.if-not-fits_images.false) c.judge-judged.ensures c.in-Both.is c.new-all.ensures c.play_all.ensures
     c.answer_number-in-Both.ensures c.put_answer-in-Both.ensures

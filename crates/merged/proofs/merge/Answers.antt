@@ -18,12 +18,12 @@ returns-then-not-has_room c =
 
 pub returns-in-Both : goal.returns-in-Both
 returns-in-Both c =
-    merge_written c.if-res-ne-RESULT.false c.judge-judged.ensures c.in-Both.is c.has_room.ensures (ap not c.if-not-has_room.false) c.start_weave-start.ensures c.write_text-length.ensures
+    merge_written c.if-res-ne-RESULT.false c.judge-judged.ensures c.in-Both.is c.has_room.ensures (ap not c.if-not-has_room.false) c.new-all.ensures c.write_text-length.ensures
     c.answer_number-in-Both.ensures c.put_answer-in-Both.ensures
 
 pub overflow_cast-length : goal.overflow_cast-length
 overflow_cast-length c =
     omega (
       arith,
-      length_small c.judge-judged.ensures c.in-Both.is c.has_room.ensures (ap not c.if-not-has_room.false) c.start_weave-start.ensures c.write_text-length.ensures,
+      length_small c.judge-judged.ensures c.in-Both.is c.has_room.ensures (ap not c.if-not-has_room.false) c.new-all.ensures c.write_text-length.ensures,
     )

@@ -1,16 +1,26 @@
-use Rattle.std.proofs.Common.{refl, arith}
-use Rattle.merged.proofs.LoopLaws.{going_start, going_done, going_end, going_next}
+use Rattle.std.proofs.Common.{refl, rules}
+use Rattle.merged.proofs.LoopLaws.{going_start, going_end, going_next}
 use Rattle.merged.proofs.write_all.Goals as goal
 
-pub loop-k-init : goal.loop-k-init
-loop-k-init c = (omega arith, refl, going_start _ _ _ _ _)
+pub loop-rec-init : goal.loop-rec-init
+loop-rec-init c =
+    let items = c.take-rec-items in
+    record {
+      can = search rules;
+      ends = search rules;
+      same = refl;
+      going = rw c.into_iter-rec-iterator.ensures.into_iter_gives (going_start items.result _ _ items.ensures.source items.ensures.count);
+    }
 
-pub returns-in_default : goal.returns-in_default
-returns-in_default c = going_done c.loop-k.invariant.2 c.next_woven-woven.ensures c.in_default.is
-
-pub loop-k-preserved : goal.loop-k-preserved
-loop-k-preserved c =
-    (omega arith, omega arith, going_next c.loop-k.invariant.2 c.next_woven-woven.ensures c.in-Next.is c.write_line-at.ensures c.loop-k.invariant.1)
+pub loop-rec-preserved : goal.loop-rec-preserved
+loop-rec-preserved c =
+    let i = c.loop-rec.invariant in
+    record {
+      can = search rules;
+      ends = search rules;
+      same = search rules;
+      going = going_next i.going c.next.new.self c.in-Some.ensures.steps c.write_line-at.ensures i.same;
+    }
 
 pub returns : goal.returns
-returns c = going_end c.loop-k.invariant.2 c.loop-k-test.false
+returns c = going_end c.loop-rec.invariant.going c.next.new.self c.in-None.ensures.steps

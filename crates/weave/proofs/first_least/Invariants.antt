@@ -1,9 +1,9 @@
-use Rattle.std.proofs.Common.{length, ◌-◌, ◌≡◌}
-use Rattle.weave.proofs.LeastLaws.{Sofar}
+use Rattle.std.proofs.Common.{◌≡◌, get_or, nat_lt}
+use Rattle.std.specs.List.{IsFirstBest}
 use Rattle.weave.proofs.first_least.Given as goal
 
 abbrev pub invariant-loop-k : goal.invariant-loop-k
-invariant-loop-k l = Sofar l.numbers l.best l.least l.k × (length l.numbers ≡ 5)
-
-abbrev pub decreases-loop-k : goal.decreases-loop-k
-decreases-loop-k l = 5 - l.k
+invariant-loop-k l = record {
+  best : IsFirstBest nat_lt l.numbers l.k l.best;
+  is : l.least ≡ get_or l.numbers l.best 0;
+}

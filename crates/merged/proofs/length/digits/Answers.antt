@@ -1,11 +1,9 @@
-use Rattle.std.proofs.Common.{◌≤◌, rules}
-use Rattle.field.specs.Decimal.{largest}
-use Rattle.merged.proofs.LengthLaws.{count_next, count_end}
+use Rattle.std.proofs.Common.{sym}
+use Rattle.merged.proofs.LengthLaws.{digits_of_zero, digits_by_power}
 use Rattle.merged.proofs.length.digits.Goals as goal
 
-pub loop-rest-preserved : goal.loop-rest-preserved
-loop-rest-preserved c =
-    let small : c.args.value ≤ largest = search rules in count_next small c.loop-rest-test.true c.loop-rest.invariant
+pub returns-then-value-eq0 : goal.returns-then-value-eq0
+returns-then-value-eq0 c = rw c.if-value-eq0.true (sym digits_of_zero)
 
 pub returns : goal.returns
-returns c = count_end c.loop-rest-test.false c.loop-rest.invariant
+returns c = sym (digits_by_power _ _ c.ilog10.ensures.power_le c.ilog10.ensures.next_power_gt)

@@ -4,7 +4,7 @@ use Rattle.field.proofs.Reading.{got_none, got_one}
 use Rattle.line.proofs.Apart.{tells_record}
 use Rattle.text.proofs.Standing.{got_record_place}
 use Rattle.weave.proofs.FeedLaws.{trace_begin, trace_pass, trace_none, trace_end, trace_found, trace_on}
-use Rattle.weave.proofs.feed.feed_trace.Goals as goal
+use Rattle.weave.proofs.feed.WithinSource.next.Goals as goal
 
 pub loop-at-init : goal.loop-at-init
 loop-at-init c = trace_pass trace_begin c.letter_of-letter.ensures c.line_with-at.ensures.0

@@ -1,0 +1,28 @@
+use Rattle.std.proofs.Common.{arith}
+use Rattle.field.proofs.Reading.{got_none, got_one}
+use Rattle.level.proofs.LevelLaws.{tells_level}
+use Rattle.capture.specs.OneByOne.{levels}
+use Rattle.capture.proofs.OneByOne.{some_level, behind}
+use Rattle.weave.proofs.FeedLaws.{levels_found, levels_none, levels_end, levels_on}
+use Rattle.weave.proofs.feed.BehindSource.next.Goals as goal
+
+pub returns-in-Some : goal.returns-in-Some
+returns-in-Some c = levels_found c.loop-next.invariant c.in-Some.ensures
+
+pub returns-then-levels-from : goal.returns-then-levels-from
+returns-then-levels-from c = levels_end c.loop-next.invariant c.in_default.ensures c.if-levels-from.true
+
+pub returns-in_default-read_level : goal.returns-in_default-read_level
+returns-in_default-read_level c =
+    levels_none c.loop-next.invariant c.in_default.ensures c.if-levels-from.false
+    (got_none tells_level c.read_level.ensures c.in_default-read_level.is)
+
+pub loop-next-smaller : goal.loop-next-smaller
+unfolding levels
+loop-next-smaller c =
+    let l = behind some_level (got_one tells_level c.read_level.ensures _ _ c.in-Value.is) in omega arith
+
+pub loop-next-preserved : goal.loop-next-preserved
+loop-next-preserved c =
+    levels_on c.loop-next.invariant c.in_default.ensures (got_one tells_level c.read_level.ensures _ _ c.in-Value.is)
+    c.turn-turn.ensures
