@@ -2,14 +2,13 @@
 #![tactic(auto)]
 
 ghost use Rattle.std.specs.Prelude.{◌≡◌};
-ghost use Rattle.law.specs.Deciding.{Decides};
 ghost use Rattle.controls.specs.Play.{start_of, moved_of, lost_of, flash_moved, eeprom_moved, line_moved};
 
 use eeprom::Eeprom;
 use flash::Flash;
 use record::{Board, EepromEvent, Event, FlashEvent, LineEvent, Lines, Record, Skeleton};
 
-#[derive(Clone, Copy)]
+#[derive(Clone, Copy, Debug, PartialEq, Eq)]
 pub struct Controls {
     pub flash: Flash,
     pub eeprom: Eeprom,
@@ -95,29 +94,4 @@ impl Controls {
     {
         self.flash.lost()
     }
-}
-
-fn same_eeprom(a: Eeprom, b: Eeprom) -> bool
-    ensures { Decides result (a ≡ b) }
-{
-    a == b
-}
-
-fn same_lines(a: Lines, b: Lines) -> bool
-    ensures { Decides result (a ≡ b) }
-{
-    a == b
-}
-
-// Whether the controls are in one state.
-pub fn same(a: Controls, b: Controls) -> bool
-    ensures { Decides result (a ≡ b) }
-{
-    if !flash::same(a.flash, b.flash) {
-        return false;
-    }
-    if !same_eeprom(a.eeprom, b.eeprom) {
-        return false;
-    }
-    same_lines(a.lines, b.lines)
 }

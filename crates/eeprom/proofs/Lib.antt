@@ -6,3 +6,4 @@ pub mod Canonical
 pub mod Written
 pub mod Worked
 pub mod Laws
+pub mod Compared
