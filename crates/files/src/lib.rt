@@ -1,90 +1,50 @@
 // The files that the programs read. Of the bytes that come from outside no promise can speak; of their number it does.
 #![tactic(auto)]
 
-ghost use Rattle.std.specs.Prelude.{length};
-ghost use Rattle.files.specs.Files.{Moves, Within, Loads};
+ghost use Rattle.std.specs.Prelude.{◌≤◌, length, IfOk, IfSome};
 
 use std::io::{ErrorKind, Read};
 use std::rt::Files;
 use std::{fs, io};
 
-// One read of what is left of a file.
-#[derive(Drop)]
-pub enum Chunk {
-    Bytes(usize),
-    End,
-    Failed(io::Error),
-}
+// A file that can't be read was reported on standard error.
+#[derive(Clone, Copy, Debug, PartialEq, Eq)]
+pub struct Unreadable;
 
-// How many bytes of a file there are.
-#[derive(Drop)]
-pub enum Taken {
-    Bytes(usize),
-    Unreadable(io::Error),
-}
-
-// What became of a file: whether it is there, and how many bytes were read. One that can't be read was reported on standard error.
-#[derive(Drop)]
-pub enum File {
-    Read(bool, usize),
-    Unreadable,
-}
-
-fn read_some<R: Read>(file: &mut R, buf: &mut [u8]) -> Chunk
-    ensures { Moves (length buf.old) result }
-{
-    match file.read(buf) {
-        Ok(0) => Chunk::End,
-        Ok(n) => Chunk::Bytes(n),
-        Err(e) => Chunk::Failed(e),
-    }
-}
-
-// Reads until the buffer is full, the file ends or a read fails.
-fn read_all<R: Read>(file: &mut R, buf: &mut [u8]) -> Taken
-    ensures { Within buf.new result }
+// Reads until the buffer is full, the file ends or a read fails; how many bytes there are.
+fn read_all<R: Read>(file: &mut R, buf: &mut [u8]) -> io::Result<usize>
+    ensures { IfOk result (λ n. n ≤ length buf.new) }
 {
     let mut n = 0;
     while n < buf.len() {
-        match read_some(file, &mut buf[n..]) {
-            Chunk::Bytes(k) => {
-                n += k;
-            }
-            Chunk::End => {
-                return Taken::Bytes(n);
-            }
-            Chunk::Failed(e) => {
-                return Taken::Unreadable(e);
-            }
+        let more = file.read(&mut buf[n..])?;
+        if more == 0 {
+            break;
         }
+        n += more;
     }
-    Taken::Bytes(n)
+    Ok(n)
 }
 
 // A line on standard error: what failed, and why. Where this fails nobody is left to be told.
-fn report<R: Eprint>(rt: &R, what: &str, e: io::Error) {
+fn report<R: Eprint>(rt: &R, what: &str, e: io::Error) -> Unreadable {
     let _ = eprintln!(rt; "{what}: {e}");
+    Unreadable
 }
 
 // The bytes of a file, as far as the buffer goes; none where there is no such file. Any other error makes it unreadable.
-pub fn load<R: Files + Eprint>(rt: &R, path: &str, buf: &mut [u8]) -> File
-    ensures { Loads buf.new result }
+pub fn load<'a, R: Files + Eprint>(
+    rt: &R,
+    path: &str,
+    buf: &'a mut [u8],
+) -> Result<Option<&'a [u8]>, Unreadable>
+    ensures { IfOk result (λ found. IfSome found (λ bytes. length bytes.now ≤ length buf.old)) }
 {
     let mut file = match fs::open(rt, path) {
         Ok(file) => file,
-        Err(e) => {
-            if e.kind() == ErrorKind::NotFound {
-                return File::Read(false, 0);
-            }
-            report(rt, path, e);
-            return File::Unreadable;
-        }
+        Err(e) if e.kind() == ErrorKind::NotFound => return Ok(None),
+        Err(e) => return Err(report(rt, path, e)),
     };
-    match read_all(&mut file, buf) {
-        Taken::Bytes(n) => File::Read(true, n),
-        Taken::Unreadable(e) => {
-            report(rt, path, e);
-            File::Unreadable
-        }
-    }
+    let len = read_all(&mut file, buf).map_err(|e| report(rt, path, e))?;
+    Ok(Some(&buf[..len]))
 }

@@ -8,7 +8,6 @@ pub mod Says
 pub mod Joined
 pub mod Dumped
 pub mod One
-pub mod Copying
 pub mod Lent
 pub mod Some
 pub mod MergeLaws

@@ -2,7 +2,8 @@
 use Prim.Native.Nat.{ℕ, ◌+◌, ◌≤◌, ◌<◌}
 use native.Mathlib.Omega.{arith}
 use mathlib.Core.Path.{◌≡◌, refl, ap, ◌∙◌}
-use mathlib.Core.Bool.{true, false}
+use mathlib.Core.Bool.{true}
+use Rattle.std.specs.Prelude.{Ok, Err}
 use mathlib.Core.List.{List, [], ◌∷◌, ◌++◌}
 use lib.ListN.{length, take, drop, length-append}
 use borrow.Author.Tests.{eq-eqb, le-ltb, ltb-false}
@@ -122,7 +123,7 @@ module _ {levels trace old mid result end : List ℕ} {answer : ℕ} (enough : m
       let z = m.some t in
       go z.0 z.1 (fits z.0 z.1) (left z.0 (fits z.0 z.1) (m.judged t z.0 z.1))
 
-  pub merge_accepted : {c : ℕ} → answer ≡ 0 → c ≡ count_of end → PrintsMerge levels trace old mid (record { accepted = true; len = c })
+  pub merge_accepted : {c : ℕ} → answer ≡ 0 → c ≡ count_of end → PrintsMerge levels trace old mid (Ok c)
   merge_accepted {c} z e = record { written = λ _. some by; short = λ l. absurd (omega arith) }
     where
       by : (j : Judgement) → Judges levels trace j → Fits j → Left old mid end answer j → (k : Judgement) × Judges levels trace k × (true ≡ is_merged k) × Written (printed_for k) old mid c
@@ -157,7 +158,7 @@ module _ {levels trace old mid result end : List ℕ} {answer : ℕ} (enough : m
     pub line_room : s.len ≤ length mid
     line_room = omega (arith, the_line.short, ap length the_line.stays)
 
-    pub merge_refused : {part : List ℕ} → part ≡ take s.len s.bytes → PrintsMerge levels trace old (part ++ drop s.len mid) (record { accepted = false; len = s.len })
+    pub merge_refused : {part : List ℕ} → part ≡ take s.len s.bytes → PrintsMerge levels trace old (part ++ drop s.len mid) (Err (record { 0 = s.len }))
     merge_refused {part} e =
         let k = the_line in
         let h = k.holds in
@@ -167,5 +168,5 @@ module _ {levels trace old mid result end : List ℕ} {answer : ℕ} (enough : m
         }
 
 -- no room
-pub merge_short : {levels trace old : List ℕ} → length old < merge_room → PrintsMerge levels trace old old (record { accepted = false; len = 0 })
+pub merge_short : {levels trace old : List ℕ} → length old < merge_room → PrintsMerge levels trace old old (Err (record { 0 = 0 }))
 merge_short h = record { written = λ l. absurd (omega arith); short = λ l. (refl, refl, refl) }

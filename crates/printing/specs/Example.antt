@@ -1,9 +1,9 @@
 -- Believed: 'One listing in full', byte for byte: the text of document 01 and what it prints, no dumps. Each row is a line.
-use Rattle.std.specs.Prelude.{ℕ, false, List, [], ◌∷◌}
-use Rattle.printing.specs.Printed.{Dumps, dumps_of, Printed, PagesPrinted}
+use Rattle.std.specs.Prelude.{ℕ, None, List, [], ◌∷◌}
+use Rattle.printing.specs.Printed.{Dumps, Printed, PagesPrinted}
 
 abbrev pub no_dumps : Dumps
-no_dumps = dumps_of false [] false []
+no_dumps = record { flash = None; eeprom = None }
 
 abbrev pub example_text : List ℕ
 example_text =

@@ -1,17 +1,17 @@
 -- What is lent to the call for dumps, and what it leaves.
-use Rattle.std.specs.Prelude.{ℕ, ◌≡◌, Bool, true, false, List, [], eqb, length, replicate}
+use Rattle.std.specs.Prelude.{ℕ, ◌≡◌, true, false, Some, None, List, [], eqb, length, replicate}
 use Rattle.law.specs.Words.{pick}
 use Rattle.record.specs.Lengths.{replies_length, result_length}
 use Rattle.image.specs.Image.{Image, image_of}
 use Rattle.times.specs.Times.{times_length}
 use Rattle.buffers.specs.Buffers.{Buffers, fit}
 use Rattle.call.specs.Replay.{Ended, Replays}
-use Rattle.printing.specs.Printed.{Dumps, images_from, all_taken}
+use Rattle.printing.specs.Printed.{Dump, Dumps, images_from, all_taken}
 
 -- in place of an image whose dump is there: the dump, sure, where it has the image's length; else no byte, which is refusal 1
-unfoldable pub lent_for : Bool → List ℕ → Image → Image
-lent_for there dump i =
-    pick there (pick (eqb (length dump) (length i.values)) (image_of dump (replicate (length i.masks) 0)) (image_of [] i.masks)) i
+unfoldable pub lent_for : Dump → Image → Image
+lent_for (Some bytes) i = pick (eqb (length bytes) (length i.values)) (image_of bytes (replicate (length i.masks) 0)) (image_of [] i.masks)
+lent_for None i = i
 
 -- the dumps' images, where all are taken; else what does not fit
 pub record LentFor (d : Dumps) (x : Buffers) : Type 0 where

@@ -1,6 +1,6 @@
 -- Believed: What is printed of a text and of the dumps (document 01, 'One listing in full', 'Bytes and doubt'; document 02, requests 1/12 and 2/12).
-use Rattle.std.specs.Prelude.{ℕ, suc, ◌+◌, ◌≤◌, ◌<◌, ◌≡◌, Bool, true, false, List, [], ◌∷◌, ◌++◌, eqb, ltb, length, drop, replicate}
-use Rattle.law.specs.Words.{pick}
+use Rattle.std.specs.Prelude.{ℕ, suc, ◌+◌, ◌≤◌, ◌<◌, ◌≡◌, Bool, true, false, Option, Some, None, List, [], ◌∷◌, ◌++◌, eqb, ltb, length, drop, replicate}
+use Rattle.std.specs.Borrow.{Bor}
 use Rattle.meaning.specs.Meaning.{Means, before}
 use Rattle.meaning.specs.Meaning as meaning
 use Rattle.meaning.specs.Listing.{shown_at}
@@ -23,17 +23,21 @@ use Rattle.listing.specs.Listing.{listing_room}
 use Rattle.listing.specs.Pages.{pages_heading, written_lines}
 
 -- ---- the dumps
--- a chip's dump: is there one, and its bytes
-pub record Dump : Type 0 where
-  pub there : Bool
-  pub bytes : List ℕ
+-- a chip's dump: its bytes, where there is one
+abbrev pub Dump : Type 0
+Dump = Option (List ℕ)
 
 pub record Dumps : Type 0 where
   pub flash : Dump
   pub eeprom : Dump
 
-abbrev pub dumps_of : Bool → List ℕ → Bool → List ℕ → Dumps
-dumps_of ft fb et eb = record { flash = record { there = ft; bytes = fb }; eeprom = record { there = et; bytes = eb } }
+-- as they are handed over
+abbrev pub dump_of : Option (Bor (List ℕ)) → Dump
+dump_of (Some d) = Some d.now
+dump_of None = None
+
+abbrev pub dumps_of : Option (Bor (List ℕ)) → Option (Bor (List ℕ)) → Dumps
+dumps_of flash eeprom = record { flash = dump_of flash; eeprom = dump_of eeprom }
 
 abbrev pub dump_at : Chip → Dumps → Dump
 dump_at chip d = per_chip d.flash d.eeprom chip
@@ -44,14 +48,16 @@ unknown chip = image_of (replicate (kept_bytes chip) 0) (replicate (kept_bytes c
 
 -- 'A dump is taken as sure'
 abbrev pub image_from : Chip → Dump → Image
-image_from chip d = pick d.there (image_of d.bytes (replicate (kept_bytes chip) 0)) (unknown chip)
+image_from chip (Some bytes) = image_of bytes (replicate (kept_bytes chip) 0)
+image_from chip None = unknown chip
 
 abbrev pub images_from : Dumps → Images
 images_from d = record { flash = image_from Flash d.flash; eeprom = image_from Eeprom d.eeprom }
 
 -- 'one of another length is refusal 1'
 abbrev pub taken : Chip → Dump → Bool
-taken chip d = pick d.there (eqb (length d.bytes) (kept_bytes chip)) true
+taken chip (Some bytes) = eqb (length bytes) (kept_bytes chip)
+taken chip None = true
 
 unfoldable pub all_taken : Dumps → Bool
 all_taken d = every_chip (λ chip. taken chip (dump_at chip d))

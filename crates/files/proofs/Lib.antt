@@ -1,2 +1,0 @@
--- What the proofs of `files` share.
-pub mod Cases

@@ -1,2 +1,0 @@
--- What is known of the files that were read.
-pub mod Files

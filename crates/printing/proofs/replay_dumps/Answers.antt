@@ -1,5 +1,0 @@
-use Rattle.printing.proofs.Lent.{lent_parts, left_for}
-use Rattle.printing.proofs.replay_dumps.Goals as goal
-
-pub returns : goal.returns
-returns c = left_for (lent_parts _ _ _ _ _ _ _ _ _ _ _ c.take_dump-flash_lent.ensures.1 c.take_dump-eeprom_lent.ensures.1 c.requires.0 c.requires.1 c.requires.2) c.hazelcrook_replay.ensures

@@ -1,0 +1,2 @@
+-- What a printer is to keep to.
+pub mod Trace
