@@ -2,6 +2,7 @@
 use mathlib.Core.Path.{◌≡◌, refl, sym, subst}
 use mathlib.Core.List.{List, [], ◌∷◌}
 use Prim.Native.Nat.{ℕ}
+use Rattle.std.specs.Prelude.{Option, Some}
 use Rattle.law.specs.Words.{filter, keep}
 use Rattle.record.specs.declared.FlashEvent.TheVariants as flash
 use Rattle.record.specs.declared.EepromEvent.TheVariants as eeprom
@@ -10,53 +11,51 @@ use Rattle.record.specs.declared.Event.TheVariants.{Flash, Eeprom, Line}
 use Rattle.record.specs.declared.Record.{Record}
 use Rattle.text.specs.declared.buses.Bus.{Bus}
 use Rattle.text.specs.declared.buses.Bus.TheVariants.{Closed, Open, Spoilt}
-use Rattle.text.specs.declared.buses.Moved.{Moved}
-use Rattle.text.specs.declared.buses.Moved.TheVariants.{To}
-use Rattle.text.specs.declared.buses.Moves.{Moves}
+use Rattle.text.specs.declared.buses.Buses.{Buses}
 use Rattle.text.specs.Buses.{flash_bus, eeprom_bus, with_flash, with_eeprom, after, Possible}
 use Rattle.capture.specs.Taken.{flash_movers, eeprom_movers}
 
-abbrev pub flash_to : Bus → Event → Moved
+abbrev pub flash_to : Bus → Event → Option Bus
 flash_to x (Flash e) = flash_bus x e
-flash_to x (Eeprom e) = To x
-flash_to x (Line e) = To x
+flash_to x (Eeprom e) = Some x
+flash_to x (Line e) = Some x
 
-abbrev pub eeprom_to : Bus → Event → Moved
-eeprom_to x (Flash e) = To x
+abbrev pub eeprom_to : Bus → Event → Option Bus
+eeprom_to x (Flash e) = Some x
 eeprom_to x (Eeprom e) = eeprom_bus x e
-eeprom_to x (Line e) = To x
+eeprom_to x (Line e) = Some x
 
 -- each record is possible, from the bus as it stands
-unfoldable pub Runs : (Bus → Event → Moved) → Bus → List Record → Type 0
+unfoldable pub Runs : (Bus → Event → Option Bus) → Bus → List Record → Type 0
 Runs to x [] = Unit {0}
-Runs to x (r ∷ rs) = (y : Bus) × (to x r.event ≡ To y) × Runs to y rs
+Runs to x (r ∷ rs) = (y : Bus) × (to x r.event ≡ Some y) × Runs to y rs
 
-abbrev buses : Bus → Bus → Moves
-buses x y = Moves.To (record { flash = x; eeprom = y })
+abbrev buses : Bus → Bus → Option Buses
+buses x y = Some (record { flash = x; eeprom = y })
 
 abbrev Apart : List Record → Type 0
 Apart m = (x y : Bus) → Runs flash_to x (flash_movers m) → Runs eeprom_to y (eeprom_movers m) → Possible (after (buses x y) m)
 
-end_flash : (x : Bus) → flash_bus x flash.End ≡ To x
+end_flash : (x : Bus) → flash_bus x flash.End ≡ Some x
 end_flash Closed = refl
 end_flash Open = refl
 end_flash Spoilt = refl
 
-end_eeprom : (x : Bus) → eeprom_bus x eeprom.End ≡ To x
+end_eeprom : (x : Bus) → eeprom_bus x eeprom.End ≡ Some x
 end_eeprom Closed = refl
 end_eeprom Open = refl
 end_eeprom Spoilt = refl
 
 module _ (m : List Record) (h : Apart m) where
-  by_flash_lem : (x y : Bus) (k : Moved) (z : Bus) → k ≡ To z → Runs flash_to z (flash_movers m) → Runs eeprom_to y (eeprom_movers m) →
+  by_flash_lem : (x y : Bus) (k : Option Bus) (z : Bus) → k ≡ Some z → Runs flash_to z (flash_movers m) → Runs eeprom_to y (eeprom_movers m) →
       Possible (after (with_flash (record { flash = x; eeprom = y }) k) m)
   by_flash_lem x y k z e f g =
-      subst (λ (j : Moved). Possible (after (with_flash (record { flash = x; eeprom = y }) j) m)) (sym e) (h z y f g)
+      subst (λ (j : Option Bus). Possible (after (with_flash (record { flash = x; eeprom = y }) j) m)) (sym e) (h z y f g)
 
-  by_eeprom_lem : (x y : Bus) (k : Moved) (z : Bus) → k ≡ To z → Runs flash_to x (flash_movers m) → Runs eeprom_to z (eeprom_movers m) →
+  by_eeprom_lem : (x y : Bus) (k : Option Bus) (z : Bus) → k ≡ Some z → Runs flash_to x (flash_movers m) → Runs eeprom_to z (eeprom_movers m) →
       Possible (after (with_eeprom (record { flash = x; eeprom = y }) k) m)
   by_eeprom_lem x y k z e f g =
-      subst (λ (j : Moved). Possible (after (with_eeprom (record { flash = x; eeprom = y }) j) m)) (sym e) (h x z f g)
+      subst (λ (j : Option Bus). Possible (after (with_eeprom (record { flash = x; eeprom = y }) j) m)) (sym e) (h x z f g)
 
   more : (v : Event) (t : ℕ) → Apart (record { stamp = t; event = v } ∷ m)
   unfolding after filter keep Runs

@@ -18,7 +18,6 @@ use Rattle.field.specs.Decimal.{largest}
 use Rattle.line.specs.Records.{EventOk}
 use Rattle.text.specs.declared.buses.Bus.{Bus}
 use Rattle.text.specs.declared.buses.Bus.TheVariants.{Closed, Open, Spoilt}
-use Rattle.text.specs.declared.buses.Moved.{Moved}
 use Rattle.level.specs.declared.Spi.{Spi}
 use Rattle.level.specs.declared.Wires.{Wires}
 use Rattle.level.specs.declared.Level.{Level}
@@ -42,7 +41,7 @@ use Rattle.capture.specs.Taken.{moves_flash, moves_eeprom}
 use Rattle.capture.proofs.Apart.{flash_to, eeprom_to, Runs}
 
 -- ---- what each machine's bus is
-abbrev pub to_of : Bits → Bus → Event → Moved
+abbrev pub to_of : Bits → Bus → Event → Option Bus
 to_of (Bits.Flash s) = flash_to
 to_of (Bits.Wires s) = eeprom_to
 
@@ -215,7 +214,7 @@ decoded_runs s a [] = tt
 decoded_runs s a (b ∷ ls) =
     let rest = decoded_from (turn_of s a b).bits b ls in
     turn_runs s a b rest
-    (subst (λ (to : Bus → Event → Moved). Runs to (bus_at (turn_of s a b).bits b) rest) (same_to s a b) (decoded_runs (turn_of s a b).bits b ls))
+    (subst (λ (to : Bus → Event → Option Bus). Runs to (bus_at (turn_of s a b).bits b) rest) (same_to s a b) (decoded_runs (turn_of s a b).bits b ls))
 
 -- lines without a fault
 pub not_back : (ts : List Record) (a b : Level) → fault_of ts (line a) b ≡ Ok tt → a.stamp ≤ b.stamp

@@ -6,6 +6,7 @@ use mathlib.Core.Logic.{inl, inr}
 use mathlib.Core.List.{List, [], ◌++◌, append_assoc, append-nil}
 use lib.ListN.{length, drop, length-append}
 use lib.Seq.{drop-append_seam}
+use Rattle.std.specs.Prelude.{Some}
 use Rattle.record.specs.declared.Record.{Record}
 use Rattle.record.specs.declared.Board.{Board}
 use Rattle.record.specs.declared.Answer.{Answer}
@@ -15,10 +16,8 @@ use Rattle.line.specs.Records.{spelled, RecordOk}
 use Rattle.line.specs.Boards.{spelled_board, BoardOk}
 use Rattle.line.proofs.OutputLaws.{spelled_length_min}
 use Rattle.line.proofs.Theorems.{one_board, record_same}
-use Rattle.text.specs.declared.buses.Moves.{Moves}
-use Rattle.text.specs.declared.checking.Checked.{Checked}
 use Rattle.text.specs.Buses.{all_closed, onwards, buses_after}
-use Rattle.text.specs.Texts.{spelled_all, spelled_trace, Readable, Front, Wrong, Refused, Checks}
+use Rattle.text.specs.Texts.{spelled_all, spelled_trace, Readable, Front, Wrong, Refused, Checks, accepted, refusal}
 use Rattle.text.specs.Texts.Wrong.{no_record, falls, cannot}
 use Rattle.text.specs.Texts.Refused.{no_board, bad_line}
 use Rattle.text.proofs.Goods.{Good, good_of, good_first, good_stamp, good_next, never, Stop, agree}
@@ -29,13 +28,13 @@ some r o = omega (arith, spelled_length_min r o.0)
 -- a reading up to where it cannot go on
 record Ends (text : List ℕ) (b : Board) (rs : List Record) : Type 0 where
   board : BoardOk b
-  good : Good 0 (Moves.To all_closed) rs
+  good : Good 0 (Some all_closed) rs
   rest : List ℕ
   is : text ≡ spelled_board b ++ (spelled_all rs ++ rest)
-  stop : Stop 0 (Moves.To all_closed) rs rest
+  stop : Stop 0 (Some all_closed) rs rest
 
 ends_same : {text : List ℕ} {b b' : Board} {rs rs' : List Record} → Ends text b rs → Ends text b' rs' → (b ≡ b') × (rs ≡ rs')
-ends_same {text} {b} {b'} {rs} {rs'} e e' = (boards, agree rs rs' 0 (Moves.To all_closed) e.good e'.good e.rest e'.rest e.stop e'.stop records)
+ends_same {text} {b} {b'} {rs} {rs'} e e' = (boards, agree rs rs' 0 (Some all_closed) e.good e'.good e.rest e'.rest e.stop e'.stop records)
   where
     both : spelled_board b ++ (spelled_all rs ++ e.rest) ≡ spelled_board b' ++ (spelled_all rs' ++ e'.rest)
     both = sym e.is ∙ e'.is
@@ -70,7 +69,7 @@ module _ {text : List ℕ} {b : Board} {rs : List Record} (f : Front text b rs) 
   stands_there : (w u : List ℕ) → f.stands.rest ≡ w ++ u → Stands text (length (spelled_trace b rs)) w
   stands_there w u e = record { rest = u; is = front_rest ∙ e }
 
-  wrong_stop : {a : Answer} {k : ℕ} → Wrong text (length (spelled_trace b rs)) rs a k → Stop 0 (Moves.To all_closed) rs f.stands.rest
+  wrong_stop : {a : Answer} {k : ℕ} → Wrong text (length (spelled_trace b rs)) rs a k → Stop 0 (Some all_closed) rs f.stands.rest
   wrong_stop (no_record h n) r u e g = n r (good_first g) (stands_there (spelled r) u e)
   wrong_stop (falls x o s h) r u e g =
       let same = record_same text (length (spelled_trace b rs)) x r o (good_first g) s (stands_there (spelled r) u e) in
@@ -133,16 +132,16 @@ refused_one (bad_line b rs f w) (bad_line b' rs' f' w') =
     (o.0, ap (λ (x : List Record). length x + 2) e.1, o.1)
 
 -- ---- so each reading gives the whole promise of the check
-pub checks_readable : {text : List ℕ} (b : Board) (rs : List Record) → Readable text b rs → Checks text (Checked.Readable b (record { at = length (spelled_board b) }))
+pub checks_readable : {text : List ℕ} (b : Board) (rs : List Record) → Readable text b rs → Checks text (accepted b (length (spelled_board b)))
 checks_readable b rs q = record {
-  readable = λ b' rs' q'. ap (λ (x : Board). Checked.Readable x (record { at = length (spelled_board x) })) (readable_one q q').0;
+  readable = λ b' rs' q'. ap (λ (x : Board). accepted x (length (spelled_board x))) (readable_one q q').0;
   refused = λ a n k w. absurd (not_both q w);
   only = inl (b, rs, q);
 }
 
-pub checks_refused : {text : List ℕ} (a : Answer) (n k : ℕ) → Refused text a n k → Checks text (Checked.Refused a n k)
+pub checks_refused : {text : List ℕ} (a : Answer) (n k : ℕ) → Refused text a n k → Checks text (refusal a n k)
 checks_refused a n k w = record {
   readable = λ b rs q. absurd (not_both q w);
-  refused = λ a' n' k' w'. let e = refused_one w w' in λ i. Checked.Refused (e.0 i) (e.1 i) (e.2 i);
+  refused = λ a' n' k' w'. let e = refused_one w w' in λ i. refusal (e.0 i) (e.1 i) (e.2 i);
   only = inr (a, n, k, w);
 }

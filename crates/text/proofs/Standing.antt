@@ -5,6 +5,7 @@ use native.Mathlib.Nat.{zero-add}
 use mathlib.Core.Path.{◌≡◌, refl, sym, ap, subst, ◌∙◌}
 use mathlib.Core.List.{List, [], ◌∷◌, ◌++◌, append_assoc, append-nil}
 use lib.ListN.{length, drop, length-append}
+use Rattle.std.specs.Prelude.{Option, Some, None}
 use Rattle.record.specs.declared.Record.{Record}
 use Rattle.record.specs.declared.Board.{Board}
 use Rattle.record.specs.declared.Answer.{Answer}
@@ -16,11 +17,9 @@ use Rattle.line.specs.Places.{first_bad_field, first_bad_of_board}
 use Rattle.line.proofs.OutputLaws.{spelled_length_min, board_length}
 use Rattle.line.proofs.Whole.{nil_of}
 use Rattle.text.specs.declared.buses.Buses.{Buses}
-use Rattle.text.specs.declared.buses.Moves.{Moves}
-use Rattle.text.specs.declared.checking.Checked.{Checked}
 use Rattle.text.specs.Buses.{all_closed, moved, onwards, after, buses_after}
 use Rattle.text.specs.Stamps.{last_stamp}
-use Rattle.text.specs.Texts.{spelled_all, spelled_trace, Front, Wrong, Checks}
+use Rattle.text.specs.Texts.{spelled_all, spelled_trace, Front, Wrong, Checks, accepted, refusal}
 use Rattle.text.specs.Texts.Wrong.{no_record, falls, cannot}
 use Rattle.text.specs.Texts.Refused.{no_board, bad_line}
 use Rattle.text.proofs.Goods.{Good, acceptable_of, good_none, good_snoc, after_snoc, last_snoc, all_snoc}
@@ -29,12 +28,12 @@ use Rattle.text.proofs.OneReading.{some, checks_readable, checks_refused}
 pub record So (text : List ℕ) (b : Board) (at number last : ℕ) (buses : Buses) : Type 0 where
   pub rs : List Record
   pub board : BoardOk b
-  pub good : Good 0 (Moves.To all_closed) rs
+  pub good : Good 0 (Some all_closed) rs
   pub stands : Stands text 0 (spelled_trace b rs)
   pub place : at ≡ length (spelled_trace b rs)
   pub count : number ≡ length rs + 2
   pub stamp : last ≡ last_stamp 0 rs
-  pub state : buses_after rs ≡ Moves.To buses
+  pub state : buses_after rs ≡ Some buses
 
 trace_none : (b : Board) → spelled_trace b [] ≡ spelled_board b
 unfolding spelled_trace spelled_all
@@ -55,7 +54,7 @@ so_start {text} {b} {p} g e = record {
   place = g.next ∙ zero-add (length (spelled_board b)) ∙ ap length (sym (trace_none b));
   count = refl;
   stamp = refl;
-  state = ap Moves.To (sym e);
+  state = ap Some (sym e);
 }
 
 pub got_board_place : {text : List ℕ} {b : Board} {p : ℕ} → Got spelled_board BoardOk text 0 b p → (2 ≤ p) × (p ≤ length text)
@@ -75,26 +74,26 @@ module _ {text : List ℕ} {b : Board} {at number last : ℕ} {buses : Buses} (s
   here : (w : List ℕ) → Stands text at w → Stands text (length (spelled_trace b s.rs)) w
   here w h = subst (λ (k : ℕ). Stands text k w) s.place h
 
-  refuse : {a : Answer} {f : ℕ} → Wrong text (length (spelled_trace b s.rs)) s.rs a f → Checks text (Checked.Refused a number f)
-  refuse {a} {f} w = subst (λ (k : ℕ). Checks text (Checked.Refused a k f)) (sym s.count) (checks_refused a (length s.rs + 2) f (bad_line b s.rs front w))
+  refuse : {a : Answer} {f : ℕ} → Wrong text (length (spelled_trace b s.rs)) s.rs a f → Checks text (refusal a number f)
+  refuse {a} {f} w = subst (λ (k : ℕ). Checks text (refusal a k f)) (sym s.count) (checks_refused a (length s.rs + 2) f (bad_line b s.rs front w))
 
   -- the next line is no record's
-  pub so_bad : {f : ℕ} → at < length text → ((r : Record) → RecordOk r → Stands text at (spelled r) → ⊥) → f ≡ first_bad_field (drop at text) → Checks text (Checked.Refused Answer.BadLine number f)
+  pub so_bad : {f : ℕ} → at < length text → ((r : Record) → RecordOk r → Stands text at (spelled r) → ⊥) → f ≡ first_bad_field (drop at text) → Checks text (refusal Answer.BadLine number f)
   so_bad h n e =
-      subst (λ (k : ℕ). Checks text (Checked.Refused Answer.BadLine number k)) (sym (e ∙ ap (λ (k : ℕ). first_bad_field (drop k text)) s.place))
+      subst (λ (k : ℕ). Checks text (refusal Answer.BadLine number k)) (sym (e ∙ ap (λ (k : ℕ). first_bad_field (drop k text)) s.place))
       (refuse (no_record (omega (arith, s.place)) (λ r o t. n r o (subst (λ (k : ℕ). Stands text k (spelled r)) (sym s.place) t))))
 
   module _ {r : Record} {p : ℕ} (g : Got spelled RecordOk text at r p) where
     -- it falls back in time
-    pub so_back : r.stamp < last → Checks text (Checked.Refused Answer.BackInTime number 0)
+    pub so_back : r.stamp < last → Checks text (refusal Answer.BackInTime number 0)
     so_back h = refuse (falls r g.ok (here (spelled r) g.stands) (omega (arith, s.stamp)))
 
     -- it is impossible
-    pub so_impossible : last ≤ r.stamp → moved buses r.event ≡ Moves.Impossible → Checks text (Checked.Refused Answer.Impossible number 0)
-    so_impossible h e = refuse (cannot r g.ok (here (spelled r) g.stands) (omega (arith, s.stamp)) (ap (λ (m : Moves). onwards m r.event) s.state ∙ e))
+    pub so_impossible : last ≤ r.stamp → moved buses r.event ≡ None → Checks text (refusal Answer.Impossible number 0)
+    so_impossible h e = refuse (cannot r g.ok (here (spelled r) g.stands) (omega (arith, s.stamp)) (ap (λ (m : Option Buses). onwards m r.event) s.state ∙ e))
 
     -- it is good
-    pub so_more : {next : Buses} → last ≤ r.stamp → moved buses r.event ≡ Moves.To next → So text b p (number + 1) r.stamp next
+    pub so_more : {next : Buses} → last ≤ r.stamp → moved buses r.event ≡ Some next → So text b p (number + 1) r.stamp next
     so_more {next} h e = record {
       rs = s.rs ++ (r ∷ []);
       board = s.board;
@@ -103,20 +102,20 @@ module _ {text : List ℕ} {b : Board} {at number last : ℕ} {buses : Buses} (s
       place = omega (arith, g.next, s.place, ap length (trace_snoc b s.rs r), length-append (spelled_trace b s.rs) (spelled r));
       count = omega (arith, s.count, length-append s.rs (r ∷ []));
       stamp = sym (last_snoc 0 s.rs r);
-      state = after_snoc (Moves.To all_closed) s.rs r ∙ moves;
+      state = after_snoc (Some all_closed) s.rs r ∙ moves;
     }
       where
-        moves : onwards (after (Moves.To all_closed) s.rs) r.event ≡ Moves.To next
-        moves = ap (λ (m : Moves). onwards m r.event) s.state ∙ e
+        moves : onwards (after (Some all_closed) s.rs) r.event ≡ Some next
+        moves = ap (λ (m : Option Buses). onwards m r.event) s.state ∙ e
 
   -- there is no next line
-  pub so_end : {p : ℕ} → Got spelled_board BoardOk text 0 b p → length text ≤ at → Checks text (Checked.Readable b (record { at = p }))
+  pub so_end : {p : ℕ} → Got spelled_board BoardOk text 0 b p → length text ≤ at → Checks text (accepted b p)
   so_end {p} g h =
-      subst (λ (k : ℕ). Checks text (Checked.Readable b (record { at = k }))) (sym (g.next ∙ zero-add (length (spelled_board b))))
+      subst (λ (k : ℕ). Checks text (accepted b k)) (sym (g.next ∙ zero-add (length (spelled_board b))))
       (checks_readable b s.rs (record { board = s.board; fits = s.good.fits; acceptable = acceptable_of s.good; is = s.stands.is ∙ ap (λ (l : List ℕ). spelled_trace b s.rs ++ l) (nil_of s.stands.rest nothing) ∙ append-nil (spelled_trace b s.rs) }))
     where
       nothing : length s.stands.rest ≡ 0
       nothing = omega (arith, s.place, ap length s.stands.is, length-append (spelled_trace b s.rs) s.stands.rest)
 
-pub no_board_lem : {text : List ℕ} {f : ℕ} → ((b : Board) → BoardOk b → Stands text 0 (spelled_board b) → ⊥) → f ≡ first_bad_of_board text → Checks text (Checked.Refused Answer.BadLine 1 f)
-no_board_lem {text} n e = subst (λ (k : ℕ). Checks text (Checked.Refused Answer.BadLine 1 k)) (sym e) (checks_refused Answer.BadLine 1 (first_bad_of_board text) (no_board n))
+pub no_board_lem : {text : List ℕ} {f : ℕ} → ((b : Board) → BoardOk b → Stands text 0 (spelled_board b) → ⊥) → f ≡ first_bad_of_board text → Checks text (refusal Answer.BadLine 1 f)
+no_board_lem {text} n e = subst (λ (k : ℕ). Checks text (refusal Answer.BadLine 1 k)) (sym e) (checks_refused Answer.BadLine 1 (first_bad_of_board text) (no_board n))

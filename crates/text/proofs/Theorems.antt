@@ -10,12 +10,11 @@ use Rattle.law.specs.Words.{All}
 use Rattle.record.specs.declared.Record.{Record}
 use Rattle.record.specs.declared.Board.{Board}
 use Rattle.record.specs.Lengths.{replies_length}
-use Rattle.line.specs.declared.records.ReadRecord.{ReadRecord}
+use Rattle.field.specs.Readers.{Read, got}
 use Rattle.line.specs.Records.{spelled, RecordOk, ReadsRecord}
 use Rattle.line.specs.Boards.{spelled_board}
 use Rattle.line.proofs.OutputLaws.{spelled_length_min, board_length}
-use Rattle.text.specs.declared.checking.Checked.{Checked}
-use Rattle.text.specs.Texts.{text_limit, spelled_all, spelled_trace, Readable, Checks}
+use Rattle.text.specs.Texts.{text_limit, spelled_all, spelled_trace, Readable, Checks, Checked}
 use Rattle.text.proofs.OneReading.{some}
 
 -- any two answers that the promise of `check_text` admits are equal
@@ -47,8 +46,8 @@ first_place_lem {text} {b} {rs} q = ap (λ (l : List ℕ). drop (length (spelled
 
 module _ (text : List ℕ) (at : ℕ) where
   -- the record at the place is read, and the place after it has the others
-  pub step : (r : Record) (rs : List Record) (a : ReadRecord) → RecordOk r → drop at text ≡ spelled_all (r ∷ rs) → ReadsRecord text at a
-      → (a ≡ ReadRecord.Value r (record { at = at + length (spelled r) })) × (drop (at + length (spelled r)) text ≡ spelled_all rs)
+  pub step : (r : Record) (rs : List Record) (a : Read Record) → RecordOk r → drop at text ≡ spelled_all (r ∷ rs) → ReadsRecord text at a
+      → (a ≡ got r (at + length (spelled r))) × (drop (at + length (spelled r)) text ≡ spelled_all rs)
   unfolding spelled_all
   step r rs a o e d =
       (d.found r o (record { rest = spelled_all rs; is = e }), sym (drop-drop (length (spelled r)) at text) ∙ ap (λ (l : List ℕ). drop (length (spelled r)) l) e ∙ drop-append_seam (spelled r) (spelled_all rs))

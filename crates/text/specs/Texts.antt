@@ -1,15 +1,15 @@
 -- Believed: A text that can be replayed, and the first bad line of one that can't (document 01, 'The trace', refusals 2 to 5; document 02, request 2/12).
-use Rattle.std.specs.Prelude.{ℕ, ◌+◌, ◌≤◌, ◌<◌, ◌≡◌, ◌⊎◌, List, [], ◌∷◌, ◌++◌, length}
+use Rattle.std.specs.Prelude.{ℕ, ◌+◌, ◌≤◌, ◌<◌, ◌≡◌, ◌⊎◌, Result, Ok, Err, None, List, [], ◌∷◌, ◌++◌, length}
 use Rattle.law.specs.Words.{All, Rising}
 use Rattle.record.specs.declared.Record.{Record}
 use Rattle.record.specs.declared.Board.{Board}
 use Rattle.record.specs.declared.Answer.{Answer}
 use Rattle.record.specs.declared.Answer.TheVariants.{BackInTime}
+use Rattle.field.specs.declared.Cursor.{Cursor}
 use Rattle.field.specs.Reads.{Stands}
 use Rattle.line.specs.Records.{spelled, RecordOk, bad_record, record_answer, record_fault}
 use Rattle.line.specs.Boards.{spelled_board, BoardOk, bad_board, board_answer, board_fault}
-use Rattle.text.specs.declared.buses.Moves.{Moves}
-use Rattle.text.specs.declared.checking.Checked.{Checked}
+use Rattle.text.specs.declared.checking.Refusal.{Refusal}
 use Rattle.text.specs.Buses.{buses_after, Possible, ImpossibleAfter, moves_answer}
 use Rattle.text.specs.Stamps.{last_stamp}
 
@@ -48,15 +48,25 @@ pub record Front (text : List ℕ) (b : Board) (rs : List Record) : Type 0 where
 pub data Wrong (text : List ℕ) (at : ℕ) (rs : List Record) : Answer → ℕ → Type 0 where
   no_record : at < length text → ((r : Record) → RecordOk r → Stands text at (spelled r) → ⊥) → Wrong text at rs (record_answer (bad_record text at)) (record_fault (bad_record text at))
   falls : (r : Record) → RecordOk r → Stands text at (spelled r) → r.stamp < last_stamp 0 rs → Wrong text at rs BackInTime 0
-  cannot : (r : Record) → RecordOk r → Stands text at (spelled r) → last_stamp 0 rs ≤ r.stamp → ImpossibleAfter rs r → Wrong text at rs (moves_answer Moves.Impossible) 0
+  cannot : (r : Record) → RecordOk r → Stands text at (spelled r) → last_stamp 0 rs ≤ r.stamp → ImpossibleAfter rs r → Wrong text at rs (moves_answer None) 0
 
 -- the first bad line, its number and the field's: line 1 is no board's (no text too), or a later line is wrong and all before it are good
 pub data Refused (text : List ℕ) : Answer → ℕ → ℕ → Type 0 where
   no_board : ((b : Board) → BoardOk b → Stands text 0 (spelled_board b) → ⊥) → Refused text (board_answer (bad_board text 0)) 1 (board_fault (bad_board text 0))
   bad_line : {a : Answer} {f : ℕ} (b : Board) (rs : List Record) → Front text b rs → Wrong text (length (spelled_trace b rs)) rs a f → Refused text a (length rs + 2) f
 
+-- what a check says: the board and the place of the first record, or the answer, the line's number and the field's
+abbrev pub Checked : Type 0
+Checked = Result (Board × Cursor) Refusal
+
+abbrev pub accepted : Board → ℕ → Checked
+accepted b p = Ok (b, record { at = p })
+
+abbrev pub refusal : Answer → ℕ → ℕ → Checked
+refusal a n f = Err (record { answer = a; line = n; field = f })
+
 -- the answer of the check: a text is readable or refused, and the answer says which and how
 pub record Checks (text : List ℕ) (r : Checked) : Type 0 where
-  pub readable : (b : Board) (rs : List Record) → Readable text b rs → r ≡ Checked.Readable b (record { at = length (spelled_board b) })
-  pub refused : (a : Answer) (n f : ℕ) → Refused text a n f → r ≡ Checked.Refused a n f
+  pub readable : (b : Board) (rs : List Record) → Readable text b rs → r ≡ accepted b (length (spelled_board b))
+  pub refused : (a : Answer) (n f : ℕ) → Refused text a n f → r ≡ refusal a n f
   pub only : ((b : Board) × (rs : List Record) × Readable text b rs) ⊎ ((a : Answer) × (n : ℕ) × (f : ℕ) × Refused text a n f)

@@ -5,123 +5,73 @@ ghost use Rattle.text.specs.Buses.{flash_bus, eeprom_bus, all_closed, moved};
 use record::{EepromEvent, Event, FlashEvent};
 
 // Closed: not selected, or no `sta` since the start or the last `sto`. Spoilt: after `cut`.
-#[derive(Clone, Copy)]
+#[derive(Clone, Copy, Debug, PartialEq, Eq)]
 pub enum Bus {
     Closed,
     Open,
     Spoilt,
 }
 
-#[derive(Clone, Copy)]
-pub enum Moved {
-    To(Bus),
-    Impossible,
-}
-
-#[derive(Clone, Copy)]
+#[derive(Clone, Copy, Debug, PartialEq, Eq)]
 pub struct Buses {
     pub flash: Bus,
     pub eeprom: Bus,
 }
 
-#[derive(Clone, Copy)]
-pub enum Moves {
-    To(Buses),
-    Impossible,
-}
-
-pub fn all_closed() -> Buses
-    ensures { result ≡ all_closed }
-{
-    Buses {
-        flash: Bus::Closed,
-        eeprom: Bus::Closed,
-    }
-}
-
-fn flash_bus(bus: Bus, e: FlashEvent) -> Moved
-    ensures { result ≡ flash_bus bus e }
-{
-    match bus {
-        Bus::Closed => match e {
-            FlashEvent::Select => Moved::To(Bus::Open),
-            FlashEvent::Byte(_, _) => Moved::Impossible,
-            FlashEvent::Cut => Moved::Impossible,
-            FlashEvent::Deselect => Moved::Impossible,
-            FlashEvent::End => Moved::To(Bus::Closed),
-        },
-        Bus::Open => match e {
-            FlashEvent::Select => Moved::Impossible,
-            FlashEvent::Byte(_, _) => Moved::To(Bus::Open),
-            FlashEvent::Cut => Moved::To(Bus::Spoilt),
-            FlashEvent::Deselect => Moved::To(Bus::Closed),
-            FlashEvent::End => Moved::To(Bus::Open),
-        },
-        Bus::Spoilt => match e {
-            FlashEvent::Select => Moved::Impossible,
-            FlashEvent::Byte(_, _) => Moved::Impossible,
-            FlashEvent::Cut => Moved::Impossible,
-            FlashEvent::Deselect => Moved::To(Bus::Closed),
-            FlashEvent::End => Moved::To(Bus::Spoilt),
-        },
-    }
-}
-
-fn eeprom_bus(bus: Bus, e: EepromEvent) -> Moved
-    ensures { result ≡ eeprom_bus bus e }
-{
-    match bus {
-        Bus::Closed => match e {
-            EepromEvent::Start => Moved::To(Bus::Open),
-            EepromEvent::Byte(_, _) => Moved::Impossible,
-            EepromEvent::Cut => Moved::Impossible,
-            EepromEvent::Stop => Moved::Impossible,
-            EepromEvent::End => Moved::To(Bus::Closed),
-        },
-        Bus::Open => match e {
-            EepromEvent::Start => Moved::To(Bus::Open),
-            EepromEvent::Byte(_, _) => Moved::To(Bus::Open),
-            EepromEvent::Cut => Moved::To(Bus::Spoilt),
-            EepromEvent::Stop => Moved::To(Bus::Closed),
-            EepromEvent::End => Moved::To(Bus::Open),
-        },
-        Bus::Spoilt => match e {
-            EepromEvent::Start => Moved::To(Bus::Open),
-            EepromEvent::Byte(_, _) => Moved::Impossible,
-            EepromEvent::Cut => Moved::Impossible,
-            EepromEvent::Stop => Moved::To(Bus::Closed),
-            EepromEvent::End => Moved::To(Bus::Spoilt),
-        },
-    }
-}
-
-// Each channel is judged by itself; line records are always possible.
-pub fn buses_after(b: Buses, e: Event) -> Moves
-    ensures { result ≡ moved b e }
-{
-    let flash = b.flash;
-    let eeprom = b.eeprom;
-    match e {
-        Event::Flash(f) => {
-            let Moved::To(next) = flash_bus(flash, f) else {
-                return Moves::Impossible;
-            };
-            return Moves::To(Buses {
-                flash: next,
-                eeprom: eeprom,
-            });
+impl Bus {
+    // The flash's bus after an event, unless that is impossible.
+    fn after_flash(self, e: FlashEvent) -> Option<Bus>
+        ensures { result ≡ flash_bus self e }
+    {
+        match (self, e) {
+            (bus, FlashEvent::End) => Some(bus),
+            (Bus::Closed, FlashEvent::Select) => Some(Bus::Open),
+            (Bus::Open, FlashEvent::Byte(_, _)) => Some(Bus::Open),
+            (Bus::Open, FlashEvent::Cut) => Some(Bus::Spoilt),
+            (Bus::Open | Bus::Spoilt, FlashEvent::Deselect) => Some(Bus::Closed),
+            _ => None,
         }
-        Event::Eeprom(m) => {
-            let Moved::To(next) = eeprom_bus(eeprom, m) else {
-                return Moves::Impossible;
-            };
-            return Moves::To(Buses {
-                flash: flash,
-                eeprom: next,
-            });
+    }
+
+    // The EEPROM's: unlike the flash's `sel`, a `sta` is always possible.
+    fn after_eeprom(self, e: EepromEvent) -> Option<Bus>
+        ensures { result ≡ eeprom_bus self e }
+    {
+        match (self, e) {
+            (bus, EepromEvent::End) => Some(bus),
+            (_, EepromEvent::Start) => Some(Bus::Open),
+            (Bus::Open, EepromEvent::Byte(_, _)) => Some(Bus::Open),
+            (Bus::Open, EepromEvent::Cut) => Some(Bus::Spoilt),
+            (Bus::Open | Bus::Spoilt, EepromEvent::Stop) => Some(Bus::Closed),
+            _ => None,
         }
-        Event::Line(_) => {
-            return Moves::To(b);
+    }
+}
+
+impl Buses {
+    pub fn all_closed() -> Buses
+        ensures { result ≡ all_closed }
+    {
+        Buses {
+            flash: Bus::Closed,
+            eeprom: Bus::Closed,
+        }
+    }
+
+    // Both after an event, unless that is impossible. Each channel is judged by itself; line records are always possible.
+    pub fn after(self, e: Event) -> Option<Buses>
+        ensures { result ≡ moved self e }
+    {
+        match e {
+            Event::Flash(f) => Some(Buses {
+                flash: self.flash.after_flash(f)?,
+                ..self
+            }),
+            Event::Eeprom(m) => Some(Buses {
+                eeprom: self.eeprom.after_eeprom(m)?,
+                ..self
+            }),
+            Event::Line(_) => Some(self),
         }
     }
 }

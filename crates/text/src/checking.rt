@@ -2,16 +2,16 @@
 ghost use Rattle.std.specs.Prelude.{◌≡◌, ltb, length};
 ghost use Rattle.text.specs.Texts.{Checks, text_limit};
 
-use crate::buses::Moves;
+use crate::buses::Buses;
 use field::Cursor;
-use line::{ReadBoard, ReadRecord};
 use record::{Answer, Board};
 
-// Readable: the board, and the place of the first record. Refused: the answer, the line's number, counted from 1, and the field's, 0 for answers other than 3.
-#[derive(Clone, Copy)]
-pub enum Checked {
-    Readable(Board, Cursor),
-    Refused(Answer, usize, u32),
+// Why a text can't be replayed: the answer, the line's number, counted from 1, and the field's, 0 for answers other than 3.
+#[derive(Clone, Copy, Debug, PartialEq, Eq)]
+pub struct Refusal {
+    pub answer: Answer,
+    pub line: usize,
+    pub field: u32,
 }
 
 // The most bytes that a text may have.
@@ -24,34 +24,45 @@ pub fn too_long(text: &[u8]) -> bool
     LIMIT < text.len()
 }
 
-// Whether a text can be replayed, and where it can't, why and from which line on.
-pub fn check_text(text: &[u8]) -> Checked
+impl Refusal {
+    fn new(answer: Answer, line: usize, field: u32) -> Refusal
+        ensures { result ≡ record { answer = answer; line = line; field = field } }
+    {
+        Refusal {
+            answer,
+            line,
+            field,
+        }
+    }
+}
+
+// Whether a text can be replayed: its board, and the place of the first record; else why not and from which line on.
+pub fn check_text(text: &[u8]) -> Result<(Board, Cursor), Refusal>
     ensures { Checks text.now result }
 {
-    let head = line::read_board(text, Cursor { at: 0 });
-    let ReadBoard::Value(board, first) = head else {
-        return Checked::Refused(Answer::BadLine, 1, line::board_fault(head));
+    let (board, first) = match line::read_board(text, Cursor { at: 0 }) {
+        Ok(read) => read,
+        Err(bad) => return Err(Refusal::new(Answer::BadLine, 1, bad.0)),
     };
     let mut at = first.at;
     let mut number: usize = 2;
     let mut last: u32 = 0;
-    let mut buses = crate::buses::all_closed();
+    let mut buses = Buses::all_closed();
     while at < text.len() {
-        let read = crate::reader::record_at(text, at);
-        let ReadRecord::Value(rec, next) = read else {
-            return Checked::Refused(Answer::BadLine, number, line::record_fault(read));
+        let (rec, next) = match crate::reader::record_at(text, at) {
+            Ok(read) => read,
+            Err(bad) => return Err(Refusal::new(Answer::BadLine, number, bad.0)),
         };
         if rec.stamp < last {
-            return Checked::Refused(Answer::BackInTime, number, 0);
+            return Err(Refusal::new(Answer::BackInTime, number, 0));
         }
-        let event = rec.event;
-        let Moves::To(after) = crate::buses::buses_after(buses, event) else {
-            return Checked::Refused(Answer::Impossible, number, 0);
+        let Some(after) = buses.after(rec.event) else {
+            return Err(Refusal::new(Answer::Impossible, number, 0));
         };
         at = next.at;
         number += 1;
         last = rec.stamp;
         buses = after;
     }
-    Checked::Readable(board, first)
+    Ok((board, first))
 }

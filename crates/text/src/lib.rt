@@ -5,5 +5,5 @@ mod buses;
 mod checking;
 mod reader;
 
-pub use checking::{Checked, LIMIT, check_text, too_long};
-pub use reader::{Reader, moved_to, next_record, reader_at, record_at};
+pub use checking::{LIMIT, Refusal, check_text, too_long};
+pub use reader::{Reader, record_at};

@@ -2,8 +2,8 @@
 ghost use Rattle.std.specs.Prelude.{◌≡◌};
 ghost use Rattle.line.specs.Records.{ReadsRecord};
 
-use field::Cursor;
-use line::ReadRecord;
+use field::{BadField, Cursor};
+use record::Record;
 
 #[derive(Clone, Copy)]
 pub struct Reader<'a> {
@@ -11,37 +11,32 @@ pub struct Reader<'a> {
     pub at: usize,
 }
 
-// The work: what the thin functions below hand over to.
-fn read_at(text: &[u8], at: usize) -> ReadRecord
-    ensures { ReadsRecord text.now at result }
-{
-    line::read_record(text, Cursor { at })
-}
+impl<'a> Reader<'a> {
+    // A reader that stands at a place of a text.
+    pub fn new(text: &'a [u8], at: usize) -> Reader<'a>
+        ensures { (result.text ≡ text.entry) × (result.at ≡ at) }
+    {
+        Reader { text, at }
+    }
 
-// A reader that stands at a place of a text.
-pub fn reader_at<'a>(text: &'a [u8], at: usize) -> Reader<'a>
-    ensures { (result.text ≡ text.entry) × (result.at ≡ at) }
-{
-    Reader { text, at }
-}
+    // The record that stands at its place, with the place after it, or that there is none.
+    pub fn next_record(self) -> Result<(Record, Cursor), BadField>
+        ensures { ReadsRecord self.entry.text.now self.entry.at result }
+    {
+        line::read_record(self.text, Cursor { at: self.at })
+    }
 
-// The record that stands at its place, with the place after it, or that there is none.
-pub fn next_record<'a>(r: Reader<'a>) -> ReadRecord
-    ensures { ReadsRecord r.entry.text.now r.entry.at result }
-{
-    read_at(r.text, r.at)
-}
-
-// The same reader at another place.
-pub fn moved_to<'a>(r: Reader<'a>, at: usize) -> Reader<'a>
-    ensures { (result.text ≡ r.entry.text) × (result.at ≡ at) }
-{
-    Reader { text: r.text, at }
+    // The same reader at another place.
+    pub fn moved_to(self, at: usize) -> Reader<'a>
+        ensures { (result.text ≡ self.entry.text) × (result.at ≡ at) }
+    {
+        Reader { at, ..self }
+    }
 }
 
 // The record at a place of a text, and the place after it: read through a reader.
-pub fn record_at(text: &[u8], at: usize) -> ReadRecord
+pub fn record_at(text: &[u8], at: usize) -> Result<(Record, Cursor), BadField>
     ensures { ReadsRecord text.now at result }
 {
-    next_record(reader_at(text, at))
+    Reader::new(text, at).next_record()
 }
