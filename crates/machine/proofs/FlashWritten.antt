@@ -40,8 +40,8 @@ use Rattle.flash.specs.declared.Op.TheVariants as op
 use Rattle.flash.specs.declared.Sent.{Sent}
 use Rattle.flash.specs.declared.FlashFrame.{FlashFrame}
 use Rattle.flash.specs.declared.FlashFrame.TheVariants.{Idle, Void, Selected, Command}
-use Rattle.flash.specs.declared.FlashStatus.{FlashStatus}
-use Rattle.flash.specs.declared.FlashStatus.TheVariants.{Lost, Known}
+use Rattle.std.specs.Prelude.{Option}
+use Rattle.std.specs.declared.option.Option.TheVariants as option
 use Rattle.flash.specs.declared.Flash.{Flash}
 use Rattle.flash.specs.declared.FlashStep.{FlashStep}
 use Rattle.flash.proofs.Written.{side_moved, side_after, beside, Sends, done, byte, other, awake, address_of, programming, starting, deselected, written, later_stays}
@@ -79,11 +79,11 @@ fetch_quiet sent watched =
 identity_quiet : (count : ℕ) → stroke_of (identity_of count) ≡ Nothing
 identity_quiet count = split (eqb count 1) (λ t. simp (t)) (λ t. split (eqb count 2) (λ u. simp (t, u)) (λ u. simp (t, u)))
 
-reply_quiet : (o : Op) (sent : Sent) (busy : Bool) (status : FlashStatus) (watched : ℕ) → stroke_of (reply_to o sent busy status watched) ≡ Nothing
+reply_quiet : (o : Op) (sent : Sent) (busy : Bool) (status : Option ℕ) (watched : ℕ) → stroke_of (reply_to o sent busy status watched) ≡ Nothing
 reply_quiet op.WriteEnable sent busy status watched = refl
 reply_quiet op.WriteDisable sent busy status watched = refl
-reply_quiet op.ReadStatus sent busy Lost watched = refl
-reply_quiet op.ReadStatus sent busy (Known s) watched = refl
+reply_quiet op.ReadStatus sent busy option.None watched = refl
+reply_quiet op.ReadStatus sent busy (option.Some s) watched = refl
 reply_quiet op.WriteStatus sent busy status watched = refl
 reply_quiet op.Read sent busy status watched = fetch_quiet sent watched
 reply_quiet op.Program sent busy status watched = refl

@@ -13,8 +13,6 @@ use Rattle.record.specs.declared.Lines.{Lines}
 use Rattle.record.specs.declared.LineEvent.{LineEvent}
 use Rattle.record.specs.LineRules.{goes_off}
 use Rattle.flash.specs.declared.Flash.{Flash}
-use Rattle.flash.specs.declared.FlashStatus.{FlashStatus}
-use Rattle.flash.specs.declared.FlashStatus.TheVariants.{Lost, Known}
 use Rattle.flash.specs.declared.FlashCycle.{FlashCycle}
 use Rattle.flash.specs.declared.FlashCycle.TheVariants as flash-cycle
 use Rattle.flash.specs.Code.{sector_locked}
@@ -60,18 +58,18 @@ sector_of_page n = n / sector_pages + 1
 abbrev pub in_sector : ℕ → ℕ
 in_sector n = n % sector_pages
 
--- chip erase clears the unlocked sectors; a cycle's status is known, so what stands for Lost never counts
-abbrev pub reached : FlashStatus → ℕ → Bool
-reached Lost watched = true
-reached (Known s) watched = not (sector_locked s watched)
+-- chip erase clears the unlocked sectors; a cycle's status is known, so what stands for a lost one never counts
+abbrev pub reached : Option ℕ → ℕ → Bool
+reached option.None watched = true
+reached (option.Some s) watched = not (sector_locked s watched)
 
 -- which of the kept pages the flash's cycle touches, whole or cut: outside the watched sector none, and WRSR none. 'A program touches its page even if no bit changes, an erase every page it reaches' (request 1/12)
-abbrev pub flash_pages : ℕ → FlashCycle → FlashStatus → Pages
-flash_pages watched flash-cycle.None status = None
-flash_pages watched (flash-cycle.Program n) status = pick (eqb (sector_of_page n) watched) (One (in_sector n)) None
-flash_pages watched (flash-cycle.SectorErase sector) status = pick (eqb sector watched) All None
-flash_pages watched flash-cycle.ChipErase status = pick (reached status watched) All None
-flash_pages watched (flash-cycle.WriteStatus bits) status = None
+abbrev pub flash_pages : ℕ → Option FlashCycle → Option ℕ → Pages
+flash_pages watched option.None status = None
+flash_pages watched (option.Some (flash-cycle.Program n)) status = pick (eqb (sector_of_page n) watched) (One (in_sector n)) None
+flash_pages watched (option.Some (flash-cycle.SectorErase sector)) status = pick (eqb sector watched) All None
+flash_pages watched (option.Some flash-cycle.ChipErase) status = pick (reached status watched) All None
+flash_pages watched (option.Some (flash-cycle.WriteStatus bits)) status = None
 
 -- and the EEPROM's, of which all bytes are kept
 abbrev pub eeprom_pages : Option Sent → Pages

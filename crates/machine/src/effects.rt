@@ -5,7 +5,7 @@ ghost use Rattle.times.specs.Times.{on_pages};
 ghost use Rattle.machine.specs.Effects.{stroke_of, line_stroke, stroke_for, reached, flash_pages, eeprom_pages, Touches, flash_touched, eeprom_touched, program_by, erase_by, sent_in, store_by};
 
 use eeprom::{Eeprom, Sent};
-use flash::{Flash, FlashCycle, FlashStatus};
+use flash::{Flash, FlashCycle};
 use record::{Chip, Event, LineEvent, Lines, Skeleton};
 use times::Pages;
 
@@ -48,25 +48,25 @@ pub(crate) fn stroke_for(chip: Chip, lines: Lines, event: Event, k: Skeleton) ->
 }
 
 // Whether a chip erase under this status clears the watched sector.
-fn reaches(status: FlashStatus, watched: u8) -> bool
+fn reaches(status: Option<u8>, watched: u8) -> bool
     ensures { result ≡ reached status watched }
 {
     match status {
-        FlashStatus::Lost => true,
-        FlashStatus::Known(s) => !flash::sector_locked(s, watched),
+        None => true,
+        Some(s) => !flash::sector_locked(s, watched),
     }
 }
 
 // Which of the kept pages the flash's cycle touches.
-fn flash_pages(watched: u8, cycle: FlashCycle, status: FlashStatus) -> Pages
+fn flash_pages(watched: u8, cycle: Option<FlashCycle>, status: Option<u8>) -> Pages
     ensures { result ≡ flash_pages watched cycle status }
 {
     match cycle {
-        FlashCycle::Program(n) if n / page::SECTOR_PAGES + 1 == u32::from(watched) => {
+        Some(FlashCycle::Program(n)) if n / page::SECTOR_PAGES + 1 == u32::from(watched) => {
             Pages::One(n % page::SECTOR_PAGES)
         }
-        FlashCycle::SectorErase(sector) if sector == watched => Pages::All,
-        FlashCycle::ChipErase if reaches(status, watched) => Pages::All,
+        Some(FlashCycle::SectorErase(sector)) if sector == watched => Pages::All,
+        Some(FlashCycle::ChipErase) if reaches(status, watched) => Pages::All,
         _ => Pages::None,
     }
 }

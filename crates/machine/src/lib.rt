@@ -2,7 +2,7 @@
 #![tactic(auto)]
 
 ghost use Rattle.std.specs.Prelude.{◌≡◌};
-ghost use Rattle.image.specs.Images.{images_of};
+ghost use Rattle.machine.specs.Lent.{images_in, Keeps};
 ghost use Rattle.machine.specs.Turn.{turn, turn_of};
 
 use controls::Controls;
@@ -14,6 +14,15 @@ mod replies;
 
 pub use replies::compare;
 
+// The chips' images as a caller lends them: the values and the masks of doubtful bits of each.
+#[derive(Drop)]
+pub struct LentImages<'a> {
+    pub flash: &'a mut [u8],
+    pub flash_mask: &'a mut [u8],
+    pub eeprom: &'a mut [u8],
+    pub eeprom_mask: &'a mut [u8],
+}
+
 // The controls after a record, its reply, and the pages that it touches.
 #[derive(Drop)]
 pub struct Played {
@@ -23,25 +32,24 @@ pub struct Played {
 }
 
 // One record, of any channel. What is read is read before the record's own effect: a record that reads ends no cycle.
-pub fn play(
-    board: Board,
-    controls: Controls,
-    rec: Record,
-    flash: &mut [u8],
-    flash_mask: &mut [u8],
-    eeprom: &mut [u8],
-    eeprom_mask: &mut [u8],
-) -> Played
-    ensures { turn result.controls (images_of flash.new flash_mask.new eeprom.new eeprom_mask.new) result.reply result.touched
-        ≡ turn_of board controls (images_of flash.old flash_mask.old eeprom.old eeprom_mask.old) rec }
+pub fn play(board: Board, controls: Controls, rec: Record, images: &mut LentImages<'_>) -> Played
+    ensures keeps { Keeps images.old images.new }
+    ensures turns { turn result.controls (images_in images.new) result.reply result.touched
+        ≡ turn_of board controls (images_in images.old) rec }
 {
     let moved = controls.play(board, rec);
     let skeleton = moved.reply;
-    let reply = replies::deliver_for(rec.event, flash, flash_mask, eeprom, eeprom_mask, skeleton);
+    let reply = replies::deliver_for(rec.event, images, skeleton);
 
     let on_flash = effects::stroke_for(Chip::Flash, controls.lines, rec.event, skeleton);
     let flash_pages = effects::flash_touched(on_flash, board.sector, controls.flash);
-    effects::change_flash(on_flash, flash_pages, controls.flash, flash, flash_mask);
+    effects::change_flash(
+        on_flash,
+        flash_pages,
+        controls.flash,
+        images.flash,
+        images.flash_mask,
+    );
 
     let on_eeprom = effects::stroke_for(Chip::Eeprom, controls.lines, rec.event, skeleton);
     let eeprom_pages = effects::eeprom_touched(on_eeprom, controls.eeprom);
@@ -49,8 +57,8 @@ pub fn play(
         on_eeprom,
         eeprom_pages,
         controls.eeprom,
-        eeprom,
-        eeprom_mask,
+        images.eeprom,
+        images.eeprom_mask,
     );
 
     Played {

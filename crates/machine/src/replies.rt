@@ -1,10 +1,11 @@
 // A reply as it is delivered from an image, and how it compares with what was recorded.
 ghost use Rattle.std.specs.Prelude.{◌≡◌, get_or};
 ghost use Rattle.image.specs.Image.{image_of};
-ghost use Rattle.image.specs.Images.{images_of};
 ghost use Rattle.machine.specs.Replies.{delivered, agrees_if, compared_byte, compared_to, flash_seen, eeprom_seen, compared};
 ghost use Rattle.machine.specs.Machine.{image_for};
+ghost use Rattle.machine.specs.Lent.{images_in};
 
+use crate::LentImages;
 use cell::Cell;
 use record::{EepromEvent, Event, FlashEvent, Match, Reply, Skeleton};
 
@@ -32,19 +33,12 @@ fn deliver(values: &[u8], masks: &[u8], k: Skeleton) -> Reply
     }
 }
 
-pub(crate) fn deliver_for(
-    event: Event,
-    flash: &[u8],
-    flash_mask: &[u8],
-    eeprom: &[u8],
-    eeprom_mask: &[u8],
-    k: Skeleton,
-) -> Reply
-    ensures { result ≡ delivered (image_for event (images_of flash.now flash_mask.now eeprom.now eeprom_mask.now)) k }
+pub(crate) fn deliver_for(event: Event, images: &LentImages<'_>, k: Skeleton) -> Reply
+    ensures { result ≡ delivered (image_for event (images_in images.now)) k }
 {
     match event {
-        Event::Flash(_) | Event::Line(_) => deliver(flash, flash_mask, k),
-        Event::Eeprom(_) => deliver(eeprom, eeprom_mask, k),
+        Event::Flash(_) | Event::Line(_) => deliver(images.flash, images.flash_mask, k),
+        Event::Eeprom(_) => deliver(images.eeprom, images.eeprom_mask, k),
     }
 }
 
