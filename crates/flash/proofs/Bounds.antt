@@ -3,12 +3,13 @@
 use Prim.Native.Nat.{ℕ, ◌-◌, ◌/◌, ◌%◌, ◌<◌, ◌≤◌}
 use native.Mathlib.Omega.{arith}
 use mathlib.Core.Bool.{Bool, true, false}
-use mathlib.Core.Path.{◌≡◌, refl, sym, ap, subst, ◌∙◌}
+use mathlib.Core.Path.{◌≡◌, refl, sym, subst}
 use mathlib.Core.List.{List}
 use lib.ListN.{length, length-set}
-use lib.Dec.{ltb, leb, eqb}
+use lib.Dec.{ltb}
 use borrow.Author.Tests.{ltb-true}
 use Rattle.std.specs.Prelude.{Option, Some, None}
+use Rattle.std.proofs.Common.{rules}
 use Rattle.law.specs.Choice.{split, true_not_false}
 use Rattle.law.specs.Words.{pick}
 use Rattle.record.specs.declared.FlashEvent.{FlashEvent}
@@ -18,14 +19,13 @@ use Rattle.record.specs.declared.LineEvent.TheVariants.{SupplyOn, SupplyOff, Loc
 use Rattle.page.specs.Geometry.{flash_page, flash_sectors, flash_size}
 use Rattle.page.specs.Laws.{rolled_small}
 use Rattle.record.specs.Status.{StatusOk}
-use Rattle.flash.specs.Code.{decode_of, sector_of, sector_locked, wpen, kept_bits, with_enable}
+use Rattle.flash.specs.Code.{decode_of, sector_of, wpen, kept_bits, with_enable}
 use Rattle.flash.specs.Frame.{fact_at, served, op_code_sent, opened_by, counted_on, rolled_on, moved_on, with_byte, next_sent, page_after, voided_by, locked_fact, locked_frame}
-use Rattle.flash.specs.Cycle.{running_of, blank, page_in, may_start, lock_bars, starts_if, sets_if, known_effect, end_status, off_status}
+use Rattle.flash.specs.Cycle.{running_of, blank, page_in, starts_if, sets_if, known_effect, end_status, off_status}
 use Rattle.flash.specs.Step.{byte_in, closed_by, effect_in, powered_of, dark_of, supply_off_of, lock_on_of}
 use Rattle.flash.specs.Side.{Side, side_start, side_bus, side_line}
 use Rattle.flash.specs.Good.{SentOk, FrameOk, StatusBits, FlashStatusOk, CycleOk, WaitsOp, Waits, IsKnown, InCycle, is_program, sends_page, writes_page, BlankUnless, Shut, fact_of, FactOk, Fields, Good}
 use Rattle.flash.specs.declared.Op.{Op}
-use Rattle.flash.specs.declared.Op.TheVariants.{WriteEnable, WriteDisable, ReadStatus, WriteStatus, Read, Program, SectorErase, ChipErase, Identify}
 use Rattle.flash.specs.declared.LockFact.{LockFact}
 use Rattle.flash.specs.declared.LockFact.TheVariants.{Absent, Free, Locked}
 use Rattle.flash.specs.declared.Sent.{Sent}
@@ -45,15 +45,7 @@ rolled_ok : (p : ℕ) → p < flash_size → rolled_on p < flash_size
 rolled_ok p h = let l = rolled_small (flash_page - 1) (p % flash_page) in omega arith
 
 moved_ok : (op : Op) (p : ℕ) → p < flash_size → moved_on op p < flash_size
-moved_ok WriteEnable p h = h
-moved_ok WriteDisable p h = h
-moved_ok ReadStatus p h = h
-moved_ok WriteStatus p h = h
-moved_ok Read p h = counted_ok p h
-moved_ok Program p h = rolled_ok p h
-moved_ok SectorErase p h = h
-moved_ok ChipErase p h = h
-moved_ok Identify p h = h
+moved_ok op p h = search (counted_ok, rolled_ok, rules)
 
 shifted_ok : (p si : ℕ) → with_byte p si < flash_size
 shifted_ok p si = omega arith
@@ -91,22 +83,14 @@ kept_all b h = omega (arith, h.0, h.1, h.2)
 
 -- ---- parts of a state
 long_in : (c : Option FlashCycle) (p : List ℕ) → length p ≡ flash_page → length (page_in c p) ≡ flash_page
-long_in None p h = refl
-long_in (Some (cycle.Program n)) p h = h
-long_in (Some (cycle.SectorErase n)) p h = refl
-long_in (Some cycle.ChipErase) p h = refl
-long_in (Some (cycle.WriteStatus bits)) p h = refl
+long_in c p h = search rules
 
 blank_unless : (t : Bool) → BlankUnless t blank
 blank_unless true = tt
 blank_unless false = refl
 
 blank_in : (c : Option FlashCycle) (t : Bool) (p : List ℕ) → BlankUnless (pick (writes_page c) true t) (page_in c p)
-blank_in None t p = blank_unless t
-blank_in (Some (cycle.Program n)) t p = tt
-blank_in (Some (cycle.SectorErase n)) t p = blank_unless t
-blank_in (Some cycle.ChipErase) t p = blank_unless t
-blank_in (Some (cycle.WriteStatus bits)) t p = blank_unless t
+blank_in c t p = search (blank_unless, rules)
 
 blank_any : (t : Bool) (p : List ℕ) → BlankUnless (pick t true true) p
 blank_any true p = tt
@@ -151,24 +135,14 @@ level_ok true false s e = (e, refl)
 level_ok false lock s e = tt
 
 fact_ok : (busy : Bool) (st : Option ℕ) (lock : Bool) → FactOk (fact_at busy st lock) st lock
-fact_ok true st lock = tt
-fact_ok false None lock = tt
-fact_ok false (Some s) lock = level_ok (wpen s) lock s refl
+fact_ok busy st lock = search (level_ok, rules)
 
 -- ---- a byte
 op_code_ok : SentOk op_code_sent
 op_code_ok = record { some = omega arith; few = omega arith; inside = omega arith }
 
 served_waits : (op : Op) → served true op ≡ true → WaitsOp op
-served_waits WriteEnable e = lit (sym e)
-served_waits WriteDisable e = lit (sym e)
-served_waits ReadStatus e = tt
-served_waits WriteStatus e = lit (sym e)
-served_waits Read e = lit (sym e)
-served_waits Program e = lit (sym e)
-served_waits SectorErase e = lit (sym e)
-served_waits ChipErase e = lit (sym e)
-served_waits Identify e = lit (sym e)
+served_waits op e = search (true_not_false, rules)
 
 -- what an op-code leaves of a frame that was selected
 pub record Opens (fact : LockFact) (fr : FlashFrame) : Type 0 where
@@ -201,26 +175,10 @@ opens_idle (Some op) fact = idle_opens op fact (served false op)
 opens_idle None fact = record { ok = tt; said = λ st lock h. tt }
 
 long_after : (op : Op) (s : Sent) (si : ℕ) (p : List ℕ) → length p ≡ flash_page → length (page_after op s si p) ≡ flash_page
-long_after WriteEnable s si p h = h
-long_after WriteDisable s si p h = h
-long_after ReadStatus s si p h = h
-long_after WriteStatus s si p h = h
-long_after Read s si p h = h
-long_after Program s si p h = split (ltb s.count 4) (λ t. simp (t) h) (λ t. simp (t) (length-set p (s.place % flash_page) si ∙ h))
-long_after SectorErase s si p h = h
-long_after ChipErase s si p h = h
-long_after Identify s si p h = h
+long_after op s si p h = search (length-set, rules)
 
 blank_after : (op : Op) (t : Bool) (s : Sent) (si : ℕ) (p : List ℕ) → BlankUnless (pick t true (is_program op)) p → BlankUnless (pick t true (is_program op)) (page_after op s si p)
-blank_after WriteEnable t s si p h = h
-blank_after WriteDisable t s si p h = h
-blank_after ReadStatus t s si p h = h
-blank_after WriteStatus t s si p h = h
-blank_after Read t s si p h = h
-blank_after Program t s si p h = blank_any t (page_after Program s si p)
-blank_after SectorErase t s si p h = h
-blank_after ChipErase t s si p h = h
-blank_after Identify t s si p h = h
+blank_after op t s si p h = search (blank_any, rules)
 
 abbrev After : Flash → Bool → Bool → Type 0
 After f supply lock = Fields f.frame f.cycle f.status f.page supply lock
@@ -270,25 +228,10 @@ wrsr_ok : (p : ℕ) → CycleOk (Some (cycle.WriteStatus (kept_bits (p % 256))))
 wrsr_ok p = (omega arith, omega arith, omega arith)
 
 known_ok : (op : Op) (b : Sent) (fact : LockFact) (s : ℕ) → SentOk b → s < 256 → EffectOk (Some s) (known_effect op b fact s)
-known_ok WriteEnable b fact s h l = set_ok (eqb b.count 1) s (with_enable s) (enable_bits s l)
-known_ok WriteDisable b fact s h l = set_ok (eqb b.count 1) s (kept_bits s) (kept_bits_lem s l)
-known_ok ReadStatus b fact s h l = tt
-known_ok WriteStatus b fact s h l =
-    start_ok (may_start (eqb b.count 2) s (lock_bars s fact)) s (cycle.WriteStatus (kept_bits (b.place % 256))) (wrsr_ok b.place)
-known_ok Read b fact s h l = tt
-known_ok Program b fact s h l =
-    start_ok (may_start (leb 5 b.count) s (sector_locked s (sector_of b.place))) s (cycle.Program (b.place / flash_page)) (page_ok b.place h.inside)
-known_ok SectorErase b fact s h l =
-    start_ok (may_start (eqb b.count 4) s (sector_locked s (sector_of b.place))) s (cycle.SectorErase (sector_of b.place)) (sector_ok b.place)
-known_ok ChipErase b fact s h l = start_ok (may_start (eqb b.count 1) s (sector_locked s 1)) s cycle.ChipErase tt
-known_ok Identify b fact s h l = tt
+known_ok op b fact s h l = search (start_ok, set_ok, enable_bits, kept_bits_lem, wrsr_ok, page_ok, sector_ok, rules)
 
 effect_ok : (fr : FlashFrame) (st : Option ℕ) → FrameOk fr → FlashStatusOk st → EffectOk st (effect_in fr st)
-effect_ok Idle st h k = tt
-effect_ok Void st h k = tt
-effect_ok (Selected fact) st h k = tt
-effect_ok (Command op b fact) None h k = tt
-effect_ok (Command op b fact) (Some s) h k = known_ok op b fact s h k.byte
+effect_ok fr st h k = search (known_ok, rules)
 
 closed_good : (f : Flash) (e : Effect) (lock : Bool) → After f true lock → EffectOk f.status e → After (closed_by f e).chip true lock
 closed_good f Nothing lock h k =
@@ -300,21 +243,13 @@ closed_good f (Start c) lock h k =
 
 -- ---- `end`
 no_fact : (fr : FlashFrame) → Waits fr → fact_of fr ≡ Absent
-no_fact Idle h = refl
-no_fact Void h = refl
-no_fact (Selected fact) h = h
-no_fact (Command op b fact) h = h.1
+no_fact fr h = search rules
 
 absent_ok : (fact : LockFact) (st : Option ℕ) (lock : Bool) → fact ≡ Absent → FactOk fact st lock
 absent_ok fact st lock e = subst (λ (x : LockFact). FactOk x st lock) (sym e) tt
 
 end_ok : (c : Option FlashCycle) (st : Option ℕ) → CycleOk c → FlashStatusOk st → FlashStatusOk (end_status c st)
-end_ok c None d h = tt
-end_ok None (Some s) d h = h
-end_ok (Some (cycle.Program n)) (Some s) d h = kept_bits_lem s h.byte
-end_ok (Some (cycle.SectorErase n)) (Some s) d h = kept_bits_lem s h.byte
-end_ok (Some cycle.ChipErase) (Some s) d h = kept_bits_lem s h.byte
-end_ok (Some (cycle.WriteStatus bits)) (Some s) d h = bits_of bits d
+end_ok c st d h = search (kept_bits_lem, bits_of, rules)
 
 after_end : (c : Option FlashCycle) (fr : FlashFrame) (st : Option ℕ) (p : List ℕ) (lock : Bool) → Waits fr → Fields fr c st p true lock → Fields fr None (end_status c st) blank true lock
 after_end c fr st p lock w h =
@@ -345,11 +280,7 @@ shut_good f fr lock o w s x h =
     (absent_ok (fact_of fr) f.status lock x) (λ e. ((h.dark refl).0, s))
 
 dark_good : (f : Flash) (e : FlashEvent) (lock : Bool) → After f false lock → After (dark_of f e).chip false lock
-dark_good f event.Select lock h = shut_good f Void lock tt tt tt refl h
-dark_good f (event.Byte si so) lock h = h
-dark_good f event.Cut lock h = shut_good f Void lock tt tt tt refl h
-dark_good f event.Deselect lock h = shut_good f Idle lock tt tt tt refl h
-dark_good f event.End lock h = h
+dark_good f e lock h = search (shut_good, rules)
 
 step_good : (f : Flash) (e : FlashEvent) (w : ℕ) (supply lock : Bool) → After f supply lock → After (pick supply (powered_of f e lock w) (dark_of f e)).chip supply lock
 step_good f e w true lock h = powered_good f e w lock h
@@ -357,30 +288,16 @@ step_good f e w false lock h = dark_good f e lock h
 
 -- ---- a record of channel L
 void_ok : (fr : FlashFrame) → FrameOk (voided_by fr)
-void_ok Idle = tt
-void_ok Void = tt
-void_ok (Selected fact) = tt
-void_ok (Command op b fact) = tt
+void_ok fr = search rules
 
 pub void_shut : (fr : FlashFrame) → Shut (voided_by fr)
-void_shut Idle = tt
-void_shut Void = tt
-void_shut (Selected fact) = tt
-void_shut (Command op b fact) = tt
+void_shut fr = search rules
 
 void_fact : (fr : FlashFrame) → fact_of (voided_by fr) ≡ Absent
-void_fact Idle = refl
-void_fact Void = refl
-void_fact (Selected fact) = refl
-void_fact (Command op b fact) = refl
+void_fact fr = search rules
 
 off_ok : (c : Option FlashCycle) (st : Option ℕ) → FlashStatusOk st → FlashStatusOk (off_status c st)
-off_ok c None h = tt
-off_ok None (Some s) h = kept_bits_lem s h.byte
-off_ok (Some (cycle.Program n)) (Some s) h = kept_bits_lem s h.byte
-off_ok (Some (cycle.SectorErase n)) (Some s) h = kept_bits_lem s h.byte
-off_ok (Some cycle.ChipErase) (Some s) h = kept_bits_lem s h.byte
-off_ok (Some (cycle.WriteStatus bits)) (Some s) h = tt
+off_ok c st h = search (kept_bits_lem, rules)
 
 off_good : (f : Flash) (lock : Bool) → After f true lock → After (supply_off_of f) false lock
 off_good f lock h =
@@ -388,39 +305,22 @@ off_good f lock h =
     h.whole tt tt (absent_ok (fact_of (voided_by f.frame)) (off_status f.cycle f.status) lock (void_fact f.frame)) (λ e. (refl, void_shut f.frame))
 
 lock_frame : (fr : FlashFrame) → FrameOk fr → FrameOk (locked_frame fr)
-lock_frame Idle h = tt
-lock_frame Void h = tt
-lock_frame (Selected fact) h = tt
-lock_frame (Command op b fact) h = h
+lock_frame fr h = search rules
 
 lock_waits : (fr : FlashFrame) → Waits fr → Waits (locked_frame fr)
-lock_waits Idle h = tt
-lock_waits Void h = tt
-lock_waits (Selected fact) h = ap locked_fact h
-lock_waits (Command op b fact) h = (h.0, ap locked_fact h.1)
+lock_waits fr h = search rules
 
 lock_shut : (fr : FlashFrame) → Shut fr → Shut (locked_frame fr)
-lock_shut Idle h = tt
-lock_shut Void h = tt
-lock_shut (Selected fact) h = h
-lock_shut (Command op b fact) h = h
+lock_shut fr h = search rules
 
 lock_sends : (fr : FlashFrame) → sends_page (locked_frame fr) ≡ sends_page fr
-lock_sends Idle = refl
-lock_sends Void = refl
-lock_sends (Selected fact) = refl
-lock_sends (Command op b fact) = refl
+lock_sends fr = search rules
 
 locked_ok : (fact : LockFact) (st : Option ℕ) → FactOk fact st false → FactOk (locked_fact fact) st true
-locked_ok Absent st h = tt
-locked_ok Free st h = h.0
-locked_ok Locked st h = h
+locked_ok fact st h = search rules
 
 lock_fact : (fr : FlashFrame) → fact_of (locked_frame fr) ≡ locked_fact (fact_of fr)
-lock_fact Idle = refl
-lock_fact Void = refl
-lock_fact (Selected fact) = refl
-lock_fact (Command op b fact) = refl
+lock_fact fr = search rules
 
 lock_good : (f : Flash) (supply : Bool) → After f supply false → After (lock_on_of f) supply true
 lock_good f supply h = record {
@@ -436,9 +336,7 @@ lock_good f supply h = record {
 }
 
 freed_ok : (fact : LockFact) (st : Option ℕ) (lock : Bool) → FactOk fact st lock → FactOk fact st false
-freed_ok Absent st lock h = tt
-freed_ok Free st lock h = (h.0, refl)
-freed_ok Locked st lock h = h
+freed_ok fact st lock h = search rules
 
 -- other lines
 lines_good : (f : Flash) (supply lock supply' lock' : Bool) → FactOk (fact_of f.frame) f.status lock' → (supply' ≡ false → supply ≡ false) → After f supply lock → After f supply' lock'

@@ -6,9 +6,10 @@ use native.Mathlib.Omega.{arith}
 use mathlib.Core.Bool.{Bool, true, false}
 use mathlib.Core.Path.{◌≡◌, refl, sym, ap, subst, ◌∙◌}
 use mathlib.Core.List.{List}
-use mathlib.Core.Logic.{◌⊎◌, inl, inr}
+use mathlib.Core.Logic.{◌⊎◌}
 use lib.Dec.{ltb, leb, eqb}
 use Rattle.std.specs.Prelude.{Option, Some, None}
+use Rattle.std.proofs.Common.{rules}
 use Rattle.law.specs.Choice.{of_both, true_not_false}
 use Rattle.law.specs.Words.{pick}
 use Rattle.tied.specs.Control.{Cycle, idle, runs, Kind, starts, ends, fetches, plain, Lawful}
@@ -25,7 +26,7 @@ use Rattle.flash.specs.Cycle.{running_of, blank, page_in, may_start, lock_bars, 
 use Rattle.flash.specs.Step.{bare, byte_in, further_of, closed_by, effect_in, end_of, powered_of, dark_of, supply_off_of, lock_on_of}
 use Rattle.flash.specs.Side.{Side, side_bus, side_says}
 use Rattle.flash.specs.Good.{WaitsOp, Waits, InCycle, is_program, Shut, CycleOk, Good}
-use Rattle.flash.specs.Told.{Running, programs, erases, erases_all, sets_status, bits_of, runs_in, runs_of, ToldFrame, closed, opened, command, Told, told_as, told_byte, told_put, later_of, told_bits, told_later, told, starts_of, TracksFrame, TracksStatus, TracksCycle, Tracks, hint_by, hint_in, hint_of, flash_control}
+use Rattle.flash.specs.Told.{Running, programs, erases_all, bits_of, runs_in, runs_of, ToldFrame, closed, opened, command, Told, told_as, told_byte, told_put, later_of, told_bits, told_later, told, starts_of, TracksFrame, TracksStatus, TracksCycle, Tracks, hint_by, hint_in, hint_of, flash_control}
 use Rattle.flash.specs.declared.Op.{Op}
 use Rattle.flash.specs.declared.Op.TheVariants.{WriteEnable, WriteDisable, ReadStatus, WriteStatus, Read, Program, SectorErase, ChipErase, Identify}
 use Rattle.flash.specs.declared.LockFact.{LockFact}
@@ -64,15 +65,7 @@ status_quiet busy None = tt
 status_quiet busy (Some s) = tt
 
 reply_quiet : (op : Op) (s : Sent) (busy : Bool) (st : Option ℕ) (w : ℕ) → QuietReply (reply_to op s busy st w)
-reply_quiet WriteEnable s busy st w = tt
-reply_quiet WriteDisable s busy st w = tt
-reply_quiet ReadStatus s busy st w = status_quiet busy st
-reply_quiet WriteStatus s busy st w = tt
-reply_quiet Read s busy st w = fetch_quiet s w
-reply_quiet Program s busy st w = tt
-reply_quiet SectorErase s busy st w = tt
-reply_quiet ChipErase s busy st w = tt
-reply_quiet Identify s busy st w = identity_quiet s.count
+reply_quiet op s busy st w = search (status_quiet, fetch_quiet, identity_quiet, rules)
 
 -- ---- what a reply says of the cycle before and after it
 abbrev pub Says : Kind → Cycle Running → Cycle Running → Type 0
@@ -93,17 +86,10 @@ unfolding is_idle
 never_idle e h = true_not_false (sym (ap is_idle h))
 
 kept : (c : Option FlashCycle) (st : Option ℕ) (p : List ℕ) → runs_in c st (page_in c p) ≡ runs_in c st p
-kept None st p = refl
-kept (Some (cycle.Program n)) st p = refl
-kept (Some (cycle.SectorErase n)) st p = refl
-kept (Some cycle.ChipErase) st p = refl
-kept (Some (cycle.WriteStatus bits)) st p = refl
+kept c st p = search rules
 
 quiet_says : (k : Kind) → Quiet k → Says k idle idle
-quiet_says starts h = refl
-quiet_says ends h = absurd h
-quiet_says fetches h = (refl, refl)
-quiet_says plain h = refl
+quiet_says k h = search rules
 
 status_says : (busy : Bool) (st : Option ℕ) (r : Cycle Running) → Says (skeleton_kind (status_reply busy st)) r r
 status_says busy None r = refl
@@ -111,15 +97,7 @@ status_says busy (Some s) r = refl
 
 -- in a cycle only RDSR is open
 waiting_says : (op : Op) (s : Sent) (fact : LockFact) (x : Flash) (si w : ℕ) → WaitsOp op → SaysStep (runs_of x) (further_of x op s fact si w)
-waiting_says WriteEnable s fact x si w h = absurd h
-waiting_says WriteDisable s fact x si w h = absurd h
-waiting_says ReadStatus s fact x si w h = status_says (running_of x.cycle) x.status (runs_of x)
-waiting_says WriteStatus s fact x si w h = absurd h
-waiting_says Read s fact x si w h = absurd h
-waiting_says Program s fact x si w h = absurd h
-waiting_says SectorErase s fact x si w h = absurd h
-waiting_says ChipErase s fact x si w h = absurd h
-waiting_says Identify s fact x si w h = absurd h
+waiting_says op s fact x si w h = search (status_says, rules)
 
 further_says : (c : Option FlashCycle) (op : Op) (s : Sent) (fact : LockFact) (st : Option ℕ) (p : List ℕ) (si w : ℕ) → InCycle c (Waits (Command op s fact))
     → SaysStep (runs_in c st p) (further_of (record { frame = Command op s fact; cycle = c; status = st; page = p }) op s fact si w)
@@ -129,34 +107,17 @@ further_says (Some c) op s fact st p si w h =
 
 byte_says : (fr : FlashFrame) (c : Option FlashCycle) (st : Option ℕ) (p : List ℕ) (si w : ℕ) → InCycle c (Waits fr)
     → SaysStep (runs_in c st p) (byte_in fr (record { frame = fr; cycle = c; status = st; page = p }) si w)
-byte_says Idle c st p si w h = refl
-byte_says Void c st p si w h = refl
-byte_says (Selected fact) c st p si w h = kept c st p
-byte_says (Command op s fact) c st p si w h = further_says c op s fact st p si w h
+byte_says fr c st p si w h = search (kept, further_says, rules)
 
 -- with no cycle; and in one, where nothing starts
 effect_says : (e : Effect) (fr : FlashFrame) (st : Option ℕ) (p : List ℕ) → SaysStep idle (closed_by (record { frame = fr; cycle = None; status = st; page = p }) e)
-effect_says Nothing fr st p = refl
-effect_says (Status s) fr st p = refl
-effect_says (Start c) fr st p = refl
+effect_says e fr st p = search rules
 
 waiting_effect : (op : Op) (s : Sent) (fact : LockFact) (st : Option ℕ) → WaitsOp op → effect_of op s fact st ≡ Nothing
-waiting_effect op s fact None h = refl
-waiting_effect WriteEnable s fact (Some b) h = absurd h
-waiting_effect WriteDisable s fact (Some b) h = absurd h
-waiting_effect ReadStatus s fact (Some b) h = refl
-waiting_effect WriteStatus s fact (Some b) h = absurd h
-waiting_effect Read s fact (Some b) h = absurd h
-waiting_effect Program s fact (Some b) h = absurd h
-waiting_effect SectorErase s fact (Some b) h = absurd h
-waiting_effect ChipErase s fact (Some b) h = absurd h
-waiting_effect Identify s fact (Some b) h = absurd h
+waiting_effect op s fact st h = search rules
 
 waits_nothing : (fr : FlashFrame) (st : Option ℕ) → Waits fr → effect_in fr st ≡ Nothing
-waits_nothing Idle st h = refl
-waits_nothing Void st h = refl
-waits_nothing (Selected fact) st h = refl
-waits_nothing (Command op s fact) st h = waiting_effect op s fact st h.0
+waits_nothing fr st h = search (waiting_effect, rules)
 
 nothing_says : (x : Flash) (e : Effect) → e ≡ Nothing → SaysStep (runs_of x) (closed_by x e)
 nothing_says x e h = subst (λ (z : Effect). SaysStep (runs_of x) (closed_by x z)) (sym h) (kept x.cycle x.status x.page)
@@ -167,11 +128,7 @@ deselect_says None fr st p h = effect_says (effect_in fr st) fr st p
 deselect_says (Some c) fr st p h = nothing_says (record { frame = fr; cycle = Some c; status = st; page = p }) (effect_in fr st) (waits_nothing fr st h)
 
 end_says : (c : Option FlashCycle) (fr : FlashFrame) (st : Option ℕ) (p : List ℕ) → SaysStep (runs_in c st p) (end_of (record { frame = fr; cycle = c; status = st; page = p }))
-end_says None fr st p = refl
-end_says (Some (cycle.Program n)) fr st p = (never_idle (programs n p), refl)
-end_says (Some (cycle.SectorErase n)) fr st p = (never_idle (erases n), refl)
-end_says (Some cycle.ChipErase) fr st p = (never_idle (erases_all (bits_of st)), refl)
-end_says (Some (cycle.WriteStatus bits)) fr st p = (never_idle (sets_status bits), refl)
+end_says c fr st p = search (never_idle, rules)
 
 powered_says : (x : Flash) (e : FlashEvent) (lock : Bool) (w : ℕ) → InCycle x.cycle (Waits x.frame) → SaysStep (runs_of x) (powered_of x e lock w)
 powered_says x event.Select lock w h = kept x.cycle x.status x.page
@@ -181,11 +138,7 @@ powered_says x event.Deselect lock w h = deselect_says x.cycle x.frame x.status 
 powered_says x event.End lock w h = end_says x.cycle x.frame x.status x.page
 
 dark_says : (x : Flash) (e : FlashEvent) → SaysStep (runs_of x) (dark_of x e)
-dark_says x event.Select = kept x.cycle x.status x.page
-dark_says x (event.Byte si so) = refl
-dark_says x event.Cut = kept x.cycle x.status x.page
-dark_says x event.Deselect = kept x.cycle x.status x.page
-dark_says x event.End = refl
+dark_says x e = search (kept, rules)
 
 pub says : (watched : ℕ) (s : Side) (e : FlashEvent) → Good s → Says (skeleton_kind (side_says watched s e)) (runs_of s.chip) (runs_of (side_bus watched s e).chip)
 says watched s e g =
@@ -195,25 +148,17 @@ says watched s e g =
 -- ---- channel L goes on with the cycle, or stops it
 line_says : (x : Flash) (off on : Bool) →
     (runs_of (pick off (supply_off_of x) (pick on (lock_on_of x) x)) ≡ runs_of x) ⊎ (runs_of (pick off (supply_off_of x) (pick on (lock_on_of x) x)) ≡ idle)
-line_says x true on = inr refl
-line_says x false true = inl refl
-line_says x false false = inl refl
+line_says x off on = search rules
 
 -- ---- what is told is kept up
 abbrev TracksStep : Told → FlashEvent → FlashStep → Type 0
 TracksStep f e s = Tracks s.chip (told f e s.reply)
 
 quiet_bits : (k : Kind) (f : Told) → Quiet k → told_bits k f ≡ f.bits
-quiet_bits starts f h = refl
-quiet_bits ends f h = absurd h
-quiet_bits fetches f h = refl
-quiet_bits plain f h = refl
+quiet_bits k f h = search rules
 
 quiet_later : (k : Kind) (f : Told) → Quiet k → told_later k f ≡ f.later
-quiet_later starts f h = absurd h
-quiet_later ends f h = refl
-quiet_later fetches f h = refl
-quiet_later plain f h = refl
+quiet_later k f h = search rules
 
 -- the first byte
 open_tracks : (op : Op) (fact : LockFact) (c : Option FlashCycle) (p : List ℕ) → served (running_of c) op ≡ true → TracksFrame (Command op op_code_sent fact) (page_in c p) (command op op_code_sent) blank
@@ -224,15 +169,7 @@ open_tracks op fact c p e = (refl, λ t. idle_page c op p e t)
     idle_page (Some (cycle.Program n)) op p e t = absurd (program_waits op e t)
       where
         program_waits : (op : Op) → served true op ≡ true → is_program op ≡ true → ⊥
-        program_waits WriteEnable e t = true_not_false (sym t)
-        program_waits WriteDisable e t = true_not_false (sym t)
-        program_waits ReadStatus e t = true_not_false (sym t)
-        program_waits WriteStatus e t = true_not_false (sym t)
-        program_waits Read e t = true_not_false (sym t)
-        program_waits Program e t = true_not_false (sym e)
-        program_waits SectorErase e t = true_not_false (sym t)
-        program_waits ChipErase e t = true_not_false (sym t)
-        program_waits Identify e t = true_not_false (sym t)
+        program_waits op e t = search (true_not_false, rules)
     idle_page (Some (cycle.SectorErase n)) op p e t = refl
     idle_page (Some cycle.ChipErase) op p e t = refl
     idle_page (Some (cycle.WriteStatus bits)) op p e t = refl
@@ -262,22 +199,13 @@ byte_frame (Command op s fact) c st p g q si w h =
     (refl, page_tracks op s si p q h.1)
 
 byte_quiet : (fr : FlashFrame) (x : Flash) (si w : ℕ) → QuietReply (byte_in fr x si w).reply
-byte_quiet Idle x si w = tt
-byte_quiet Void x si w = tt
-byte_quiet (Selected fact) x si w = tt
-byte_quiet (Command op s fact) x si w = reply_quiet op s (running_of x.cycle) x.status w
+byte_quiet fr x si w = search (reply_quiet, rules)
 
 byte_status : (fr : FlashFrame) (x : Flash) (si w : ℕ) → (byte_in fr x si w).chip.status ≡ x.status
-byte_status Idle x si w = refl
-byte_status Void x si w = refl
-byte_status (Selected fact) x si w = refl
-byte_status (Command op s fact) x si w = refl
+byte_status fr x si w = search rules
 
 byte_cycle : (fr : FlashFrame) (x : Flash) (si w : ℕ) → (byte_in fr x si w).chip.cycle ≡ x.cycle
-byte_cycle Idle x si w = refl
-byte_cycle Void x si w = refl
-byte_cycle (Selected fact) x si w = refl
-byte_cycle (Command op s fact) x si w = refl
+byte_cycle fr x si w = search rules
 
 status_as : (st t : Option ℕ) (a b : ℕ) → t ≡ st → b ≡ a → TracksStatus st a → TracksStatus t b
 status_as st t a b e d h = rw (e, d) h
@@ -348,30 +276,14 @@ closed_tracks x (Start c) f h k = record { in_frame = tt; in_status = h.in_statu
 
 -- ---- `end`: the bits are those that were told for later
 end_status_lem : (c : Option FlashCycle) (st : Option ℕ) (bits later : ℕ) → CycleOk c → TracksStatus st bits → TracksCycle c bits later → running_of c ≡ true → TracksStatus (end_status c st) later
-end_status_lem c None bits later d k l r = tt
-end_status_lem None (Some s) bits later d k l r = absurd (true_not_false (sym r))
-end_status_lem (Some (cycle.Program n)) (Some s) bits later d k l r = kept_kept s ∙ k ∙ sym l
-end_status_lem (Some (cycle.SectorErase n)) (Some s) bits later d k l r = kept_kept s ∙ k ∙ sym l
-end_status_lem (Some cycle.ChipErase) (Some s) bits later d k l r = kept_kept s ∙ k ∙ sym l
-end_status_lem (Some (cycle.WriteStatus b)) (Some s) bits later d k l r = kept_all b d ∙ sym l
+end_status_lem c st bits later d k l r = search (kept_kept, kept_all, true_not_false, rules)
 
 waiting_page : (op : Op) (p q : List ℕ) → WaitsOp op → is_program op ≡ true → p ≡ q
-waiting_page WriteEnable p q h t = absurd h
-waiting_page WriteDisable p q h t = absurd h
-waiting_page ReadStatus p q h t = absurd (true_not_false (sym t))
-waiting_page WriteStatus p q h t = absurd h
-waiting_page Read p q h t = absurd h
-waiting_page Program p q h t = absurd h
-waiting_page SectorErase p q h t = absurd h
-waiting_page ChipErase p q h t = absurd h
-waiting_page Identify p q h t = absurd h
+waiting_page op p q h t = search (true_not_false, rules)
 
 -- a frame that waits in a cycle is told without the page
 waits_tracks : (fr : FlashFrame) (p q r : List ℕ) (g : ToldFrame) → Waits fr → TracksFrame fr p g r → TracksFrame fr q g r
-waits_tracks Idle p q r g h k = tt
-waits_tracks Void p q r g h k = tt
-waits_tracks (Selected fact) p q r g h k = k
-waits_tracks (Command op s fact) p q r g h k = (k.0, waiting_page op q r h.0)
+waits_tracks fr p q r g h k = search (waiting_page, rules)
 
 ended_tracks : (c : Option FlashCycle) (fr : FlashFrame) (st : Option ℕ) (p : List ℕ) (f : Told) → Waits fr → CycleOk c → running_of c ≡ true
     → Tracks (record { frame = fr; cycle = c; status = st; page = p }) f
@@ -398,10 +310,7 @@ powered_tracks x event.End lock w f g d h = end_tracks x.cycle x.frame x.status 
 
 -- ---- with the supply off no frame is open
 shut_tracks : (fr : FlashFrame) (p q : List ℕ) (g : ToldFrame) → Shut fr → TracksFrame fr p g q
-shut_tracks Idle p q g h = tt
-shut_tracks Void p q g h = tt
-shut_tracks (Selected fact) p q g h = absurd h
-shut_tracks (Command op s fact) p q g h = absurd h
+shut_tracks fr p q g h = search rules
 
 dark_tracks : (x : Flash) (e : FlashEvent) (f : Told) → Shut x.frame → Tracks x f → TracksStep f e (dark_of x e)
 dark_tracks x event.Select f s h = record { in_frame = tt; in_status = h.in_status; in_cycle_lem = h.in_cycle_lem }
@@ -425,18 +334,10 @@ tracks_bus watched s f e g h =
 
 -- ---- channel L leaves what is told
 off_status_lem : (c : Option FlashCycle) (st : Option ℕ) (bits : ℕ) → TracksStatus st bits → TracksStatus (off_status c st) bits
-off_status_lem c None bits h = tt
-off_status_lem None (Some s) bits h = kept_kept s ∙ h
-off_status_lem (Some (cycle.Program n)) (Some s) bits h = kept_kept s ∙ h
-off_status_lem (Some (cycle.SectorErase n)) (Some s) bits h = kept_kept s ∙ h
-off_status_lem (Some cycle.ChipErase) (Some s) bits h = kept_kept s ∙ h
-off_status_lem (Some (cycle.WriteStatus b)) (Some s) bits h = tt
+off_status_lem c st bits h = search (kept_kept, rules)
 
 lock_tracks : (fr : FlashFrame) (p q : List ℕ) (g : ToldFrame) → TracksFrame fr p g q → TracksFrame (locked_frame fr) p g q
-lock_tracks Idle p q g h = tt
-lock_tracks Void p q g h = tt
-lock_tracks (Selected fact) p q g h = h
-lock_tracks (Command op s fact) p q g h = h
+lock_tracks fr p q g h = search rules
 
 line_tracks : (x : Flash) (off on : Bool) (f : Told) → Tracks x f → Tracks (pick off (supply_off_of x) (pick on (lock_on_of x) x)) f
 line_tracks x true on f h = record {
@@ -467,10 +368,7 @@ later_in (Some (cycle.WriteStatus b)) bits = b
 
 self_frame : (fr : FlashFrame) (p : List ℕ) → TracksFrame fr p (told_of fr) p
 unfolding told_of
-self_frame Idle p = tt
-self_frame Void p = tt
-self_frame (Selected fact) p = refl
-self_frame (Command op s fact) p = (refl, λ t. refl)
+self_frame fr p = search rules
 
 self_status : (st : Option ℕ) → TracksStatus st (bits_of st)
 self_status None = tt
@@ -478,11 +376,7 @@ self_status (Some s) = refl
 
 self_cycle : (c : Option FlashCycle) (bits : ℕ) → TracksCycle c bits (later_in c bits)
 unfolding later_in
-self_cycle None bits = tt
-self_cycle (Some (cycle.Program n)) bits = refl
-self_cycle (Some (cycle.SectorErase n)) bits = refl
-self_cycle (Some cycle.ChipErase) bits = refl
-self_cycle (Some (cycle.WriteStatus b)) bits = refl
+self_cycle c bits = search rules
 
 pub tells_itself : (x : Flash) → (f : Told) × Tracks x f
 tells_itself x = (
@@ -501,15 +395,10 @@ abbrev StartedStep : Told → FlashStep → Type 0
 StartedStep f s = Started (skeleton_kind s.reply) (runs_of s.chip) f
 
 quiet_started : (k : Kind) (r : Cycle Running) (f : Told) → Quiet k → Started k r f
-quiet_started starts r f h = absurd h
-quiet_started ends r f h = tt
-quiet_started fetches r f h = tt
-quiet_started plain r f h = tt
+quiet_started k r f h = search rules
 
 closed_started : (x : Flash) (e : Effect) (f : Told) → EffectTracks x.status x.page f e → StartedStep f (closed_by x e)
-closed_started x Nothing f k = tt
-closed_started x (Status s) f k = tt
-closed_started x (Start c) f k = k.1
+closed_started x e f k = search rules
 
 end_started : (c : Option FlashCycle) (fr : FlashFrame) (st : Option ℕ) (p : List ℕ) (f : Told) → StartedStep f (end_of (record { frame = fr; cycle = c; status = st; page = p }))
 end_started None fr st p f = tt
@@ -525,11 +414,7 @@ powered_started x event.Deselect lock w f h =
 powered_started x event.End lock w f h = end_started x.cycle x.frame x.status x.page f
 
 dark_started : (x : Flash) (e : FlashEvent) (f : Told) → StartedStep f (dark_of x e)
-dark_started x event.Select f = tt
-dark_started x (event.Byte si so) f = tt
-dark_started x event.Cut f = tt
-dark_started x event.Deselect f = tt
-dark_started x event.End f = tt
+dark_started x e f = search rules
 
 pub started : (watched : ℕ) (s : Side) (f : Told) (e : FlashEvent) → Tracks s.chip f
     → Started (skeleton_kind (side_says watched s e)) (runs_of (side_bus watched s e).chip) f
@@ -540,9 +425,7 @@ started watched s f e h =
 -- ---- a byte that is fetched is told before it is given
 tells_fetch : (a b : Bool) (n : ℕ) → Telling (pick a Silent (pick b (Fetch n) Silent)) (pick a Silent (pick b (Fetch n) Silent))
 unfolding Telling
-tells_fetch true b n = tt
-tells_fetch false true n = refl
-tells_fetch false false n = tt
+tells_fetch a b n = search rules
 
 tells_given : (k : Skeleton) (t : Bool) (b : ℕ) → Telling k Silent → Telling (pick t (Given b) k) Silent
 unfolding Telling
@@ -571,15 +454,7 @@ unfolding Telling
 tells_none h = tt
 
 tells_op : (op : Op) (s : Sent) (busy : Bool) (st : Option ℕ) (w : ℕ) → Telling (reply_to op s busy st w) (hint_by w op s)
-tells_op WriteEnable s busy st w = tells_silent Silent
-tells_op WriteDisable s busy st w = tells_silent Silent
-tells_op ReadStatus s busy st w = tells_status busy st
-tells_op WriteStatus s busy st w = tells_silent Silent
-tells_op Read s busy st w = tells_fetch (ltb s.count 4) (eqb (sector_of s.place) w) (s.place % flash_sector)
-tells_op Program s busy st w = tells_silent Silent
-tells_op SectorErase s busy st w = tells_silent Silent
-tells_op ChipErase s busy st w = tells_silent Silent
-tells_op Identify s busy st w = tells_given (pick (eqb s.count 2) (Given 0x60) Silent) (eqb s.count 1) 0x1f (tells_given Silent (eqb s.count 2) 0x60 (tells_silent Silent))
+tells_op op s busy st w = search (tells_status, tells_fetch, tells_given, tells_silent, rules)
 
 tells_byte : (fr : FlashFrame) (x : Flash) (g : ToldFrame) (p q : List ℕ) (si w : ℕ) → TracksFrame fr p g q → Telling (byte_in fr x si w).reply (hint_in w g)
 tells_byte Idle x g p q si w h = tells_silent (hint_in w g)
@@ -589,9 +464,7 @@ tells_byte (Command op s fact) x g p q si w h =
     subst (λ (z : ToldFrame). Telling (reply_to op s (running_of x.cycle) x.status w) (hint_in w z)) (sym h.0) (tells_op op s (running_of x.cycle) x.status w)
 
 tells_closed : (x : Flash) (e : Effect) (h : Skeleton) → Telling (closed_by x e).reply h
-tells_closed x Nothing h = tells_silent h
-tells_closed x (Status s) h = tells_silent h
-tells_closed x (Start c) h = tells_starts h
+tells_closed x e h = search (tells_silent, tells_starts, rules)
 
 tells_end : (t : Bool) (a b : Flash) (h : Skeleton) → Telling (pick {A = FlashStep} t (record { chip = a; reply = Ends }) (record { chip = b; reply = NoCycle })).reply h
 tells_end true a b h = tells_ends h
@@ -605,11 +478,7 @@ powered_tells x event.Deselect lock w f h = tells_closed x (effect_in x.frame x.
 powered_tells x event.End lock w f h = tells_end (running_of x.cycle) (bare x.frame None (end_status x.cycle x.status) x.page) x Silent
 
 dark_tells : (x : Flash) (e : FlashEvent) (w : ℕ) (f : Told) → Telling (dark_of x e).reply (hint_of w f e)
-dark_tells x event.Select w f = tells_silent Silent
-dark_tells x (event.Byte si so) w f = tells_silent (hint_in w f.frame)
-dark_tells x event.Cut w f = tells_silent Silent
-dark_tells x event.Deselect w f = tells_silent Silent
-dark_tells x event.End w f = tells_none Silent
+dark_tells x e w f = search (tells_silent, tells_none, rules)
 
 pub tells : (watched : ℕ) (s : Side) (f : Told) (e : FlashEvent) → Tracks s.chip f → Telling (side_says watched s e) (hint_of watched f e)
 tells watched s f e h =

@@ -7,6 +7,7 @@ use native.Mathlib.Omega.{arith}
 use lib.Dec.{ltb, eqb}
 use lib.ListN.{get_or, set, replicate}
 use Rattle.std.specs.Prelude.{Option, Some, None}
+use Rattle.std.proofs.Common.{rules}
 use Rattle.law.specs.Words.{All, pick}
 use Rattle.law.specs.Choice.{of_both}
 use Rattle.law.specs.Lists.{all_at}
@@ -19,12 +20,9 @@ use Rattle.record.specs.declared.Skeleton.{Skeleton}
 use Rattle.record.specs.declared.Skeleton.TheVariants.{Silent, Given, Fetch, Ack, NoAck, Starts, Ends, NoCycle}
 use Rattle.record.specs.LineRules.{goes_off, lock_comes_on}
 use Rattle.flash.specs.declared.Op.{Op}
-use Rattle.flash.specs.declared.Op.TheVariants as op
 use Rattle.flash.specs.declared.Sent.{Sent}
 use Rattle.flash.specs.declared.FlashFrame.{FlashFrame}
-use Rattle.flash.specs.declared.FlashFrame.TheVariants.{Idle, Void, Selected, Command}
 use Rattle.flash.specs.declared.FlashCycle.{FlashCycle}
-use Rattle.flash.specs.declared.FlashCycle.TheVariants as flash-cycle
 use Rattle.flash.specs.declared.Flash.{Flash}
 use Rattle.flash.specs.declared.FlashStep.{FlashStep}
 use Rattle.flash.specs.declared.Effect.{Effect}
@@ -64,28 +62,13 @@ pub bytes_blank : BytePage blank
 bytes_blank = bytes_all flash_page 0xff (omega arith)
 
 bytes_in : (c : Option FlashCycle) (page : List ℕ) → BytePage page → BytePage (page_in c page)
-bytes_in None page h = bytes_blank
-bytes_in (Some (flash-cycle.Program n)) page h = h
-bytes_in (Some (flash-cycle.SectorErase n)) page h = bytes_blank
-bytes_in (Some flash-cycle.ChipErase) page h = bytes_blank
-bytes_in (Some (flash-cycle.WriteStatus bits)) page h = bytes_blank
+bytes_in c page h = search (bytes_blank, rules)
 
 bytes_after : (o : Op) (s : Sent) (si : ℕ) (page : List ℕ) → si < 256 → BytePage page → BytePage (page_after o s si page)
-bytes_after op.WriteEnable s si page l h = h
-bytes_after op.WriteDisable s si page l h = h
-bytes_after op.ReadStatus s si page l h = h
-bytes_after op.WriteStatus s si page l h = h
-bytes_after op.Read s si page l h = h
-bytes_after op.Program s si page l h = of_both BytePage (ltb s.count 4) page (set page (s.place % flash_page) si) h (bytes_set page (s.place % flash_page) si l h)
-bytes_after op.SectorErase s si page l h = h
-bytes_after op.ChipErase s si page l h = h
-bytes_after op.Identify s si page l h = h
+bytes_after o s si page l h = search (bytes_set, of_both, rules)
 
 bytes_byte : (fr : FlashFrame) (f : Flash) (si w : ℕ) → si < 256 → BytePage f.page → BytePage (byte_in fr f si w).chip.page
-bytes_byte Idle f si w l h = h
-bytes_byte Void f si w l h = h
-bytes_byte (Selected fact) f si w l h = bytes_in f.cycle f.page h
-bytes_byte (Command o s fact) f si w l h = bytes_after o s si f.page l h
+bytes_byte fr f si w l h = search (bytes_in, bytes_after, rules)
 
 -- `des`: whatever it does, the page stays or is blank
 bytes_closed : (f : Flash) (e : Effect) → BytePage f.page → BytePage (closed_by f e).chip.page
@@ -101,11 +84,7 @@ bytes_powered f Deselect lock w k h = bytes_closed f (effect_in f.frame f.status
 bytes_powered f End lock w k h = of_both (λ (x : FlashStep). BytePage x.chip.page) (running_of f.cycle) _ _ bytes_blank h
 
 bytes_dark : (f : Flash) (e : FlashEvent) → BytePage f.page → BytePage (dark_of f e).chip.page
-bytes_dark f Select h = bytes_in f.cycle f.page h
-bytes_dark f (Byte si so) h = h
-bytes_dark f Cut h = bytes_in f.cycle f.page h
-bytes_dark f Deselect h = bytes_in f.cycle f.page h
-bytes_dark f End h = h
+bytes_dark f e h = search (bytes_in, rules)
 
 pub bytes_step : (f : Flash) (e : FlashEvent) (l : Lines) (w : ℕ) → Sends e → BytePage f.page → BytePage (step_of f e l w).chip.page
 bytes_step f e l w k h =
@@ -141,26 +120,13 @@ fetches_identity n =
     of_both (Fetches flash_sector) (eqb n 1) (Given 0x1f) (pick (eqb n 2) (Given 0x60) Silent) tt (of_both (Fetches flash_sector) (eqb n 2) (Given 0x60) Silent tt tt)
 
 fetches_reply : (o : Op) (s : Sent) (busy : Bool) (status : Option ℕ) (w : ℕ) → Fetches flash_sector (reply_to o s busy status w)
-fetches_reply op.WriteEnable s busy status w = tt
-fetches_reply op.WriteDisable s busy status w = tt
-fetches_reply op.ReadStatus s busy status w = fetches_status busy status
-fetches_reply op.WriteStatus s busy status w = tt
-fetches_reply op.Read s busy status w = fetches_read s w
-fetches_reply op.Program s busy status w = tt
-fetches_reply op.SectorErase s busy status w = tt
-fetches_reply op.ChipErase s busy status w = tt
-fetches_reply op.Identify s busy status w = fetches_identity s.count
+fetches_reply o s busy status w = search (fetches_status, fetches_read, fetches_identity, rules)
 
 fetches_byte : (fr : FlashFrame) (f : Flash) (si w : ℕ) → Fetches flash_sector (byte_in fr f si w).reply
-fetches_byte Idle f si w = tt
-fetches_byte Void f si w = tt
-fetches_byte (Selected fact) f si w = tt
-fetches_byte (Command o s fact) f si w = fetches_reply o s (running_of f.cycle) f.status w
+fetches_byte fr f si w = search (fetches_reply, rules)
 
 fetches_closed : (f : Flash) (e : Effect) → Fetches flash_sector (closed_by f e).reply
-fetches_closed f Nothing = tt
-fetches_closed f (Status s) = tt
-fetches_closed f (Start c) = tt
+fetches_closed f e = search rules
 
 fetches_powered : (f : Flash) (e : FlashEvent) (lock : Bool) (w : ℕ) → Fetches flash_sector (powered_of f e lock w).reply
 fetches_powered f Select lock w = tt
@@ -170,11 +136,7 @@ fetches_powered f Deselect lock w = fetches_closed f (effect_in f.frame f.status
 fetches_powered f End lock w = of_both (λ (x : FlashStep). Fetches flash_sector x.reply) (running_of f.cycle) _ _ tt tt
 
 fetches_dark : (f : Flash) (e : FlashEvent) → Fetches flash_sector (dark_of f e).reply
-fetches_dark f Select = tt
-fetches_dark f (Byte si so) = tt
-fetches_dark f Cut = tt
-fetches_dark f Deselect = tt
-fetches_dark f End = tt
+fetches_dark f e = search rules
 
 pub fetches_step : (f : Flash) (e : FlashEvent) (l : Lines) (w : ℕ) → Fetches flash_sector (step_of f e l w).reply
 fetches_step f e l w =
