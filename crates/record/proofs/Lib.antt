@@ -1,1 +1,2 @@
 pub mod ReplyOf
+pub mod Compared
