@@ -15,7 +15,7 @@ use Rattle.level.specs.Spelled.{spelled_level, LevelOk}
 use Rattle.decode.specs.declared.Out.{Out}
 use Rattle.decode.specs.declared.Out.TheVariants.{Nothing, One, Two}
 use Rattle.decode.specs.declared.bits.Bits.{Bits}
-use Rattle.decode.specs.declared.bits.Turn.{Turn}
+use Rattle.decode.specs.declared.Turn.{Turn}
 use Rattle.decode.specs.Bits.{events_of}
 use Rattle.decode.specs.Decoded.{turn_of, record_at, decoded_from}
 use Rattle.capture.specs.declared.Part.{Part}
@@ -77,13 +77,13 @@ module _ {text : List ℕ} {from to : Behind} (still : Still text from to) where
           subst (Gives text trace (level_feed None)) (sym (z.is ∙ ap (decoded_from to.bits to.last) (at_end some_level z.ls z.from le))) done;
     }
 
-    pub levels_on : {l : Level} {p : ℕ} → Got spelled_level LevelOk text to.at l p → {t : Turn} → t ≡ turn_of to.bits to.last l → Still text from (behind_of p l t.bits t.out)
+    pub levels_on : {l : Level} {p : ℕ} → Got spelled_level LevelOk text to.at l p → {t : Turn Bits} → t ≡ turn_of to.bits to.last l → Still text from (behind_of p l t.bits t.out)
     unfolding decoded_from events_of levels
     levels_on {l} {p} g {t} turn = record {
       still = λ xs k.
           let z = bare xs k in
           let w = took some_level z.ls z.from g in
-          subst (λ (u : Turn). LevelsLeft text (behind_of p l u.bits u.out) xs) (sym turn)
+          subst (λ (u : Turn Bits). LevelsLeft text (behind_of p l u.bits u.out) xs) (sym turn)
           (record { ls = w.0; from = w.1; is = z.is ∙ ap (decoded_from to.bits to.last) w.2 });
     }
 

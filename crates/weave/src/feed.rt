@@ -7,8 +7,7 @@ ghost use Rattle.weave.specs.Weaving.{number_ahead, TakesHead};
 use capture::Part;
 use decode::{Bits, Out};
 use field::Cursor;
-use level::{Level, ReadLevel};
-use line::ReadRecord;
+use level::Level;
 use record::Record;
 
 // From where a feed goes on in its text.
@@ -69,10 +68,7 @@ impl Source for Behind {
             if levels.len() <= from.at {
                 return None;
             }
-            let ReadLevel::Value(last, next) = level::read_level(levels, Cursor { at: from.at })
-            else {
-                return None;
-            };
+            let (last, next) = level::read_level(levels, Cursor { at: from.at })?;
             let turn = from.bits.turn(from.last, last);
             from = Behind {
                 at: next.at,
@@ -121,7 +117,7 @@ impl Source for Within {
         let letter = letter_of(part);
         let mut at = line_with(trace, self.at, letter);
         while at < trace.len() {
-            let ReadRecord::Value(rec, next) = text::record_at(trace, at) else {
+            let Ok((rec, next)) = text::record_at(trace, at) else {
                 return None;
             };
             if capture::is_of(part, rec.event) {

@@ -12,17 +12,17 @@ returns-in-Some c = levels_found c.loop-next.invariant c.in-Some.ensures
 pub returns-then-levels-from : goal.returns-then-levels-from
 returns-then-levels-from c = levels_end c.loop-next.invariant c.in_default.ensures c.if-levels-from.true
 
-pub returns-in_default-read_level : goal.returns-in_default-read_level
-returns-in_default-read_level c =
-    levels_none c.loop-next.invariant c.in_default.ensures c.if-levels-from.false
-    (got_none tells_level c.read_level.ensures c.in_default-read_level.is)
+pub returns-in_err-last : goal.returns-in_err-last
+returns-in_err-last c =
+    rw c.from_residual.ensures (levels_none c.loop-next.invariant c.in_default.ensures c.if-levels-from.false
+    (got_none tells_level c.read_level.ensures c.in_err-last.was))
 
 pub loop-next-smaller : goal.loop-next-smaller
 unfolding levels
 loop-next-smaller c =
-    let l = behind some_level (got_one tells_level c.read_level.ensures _ _ c.in-Value.is) in omega arith
+    let l = behind some_level (got_one tells_level c.read_level.ensures _ _ c.in_ok-last.was) in omega arith
 
 pub loop-next-preserved : goal.loop-next-preserved
 loop-next-preserved c =
-    levels_on c.loop-next.invariant c.in_default.ensures (got_one tells_level c.read_level.ensures _ _ c.in-Value.is)
+    levels_on c.loop-next.invariant c.in_default.ensures (got_one tells_level c.read_level.ensures _ _ c.in_ok-last.was)
     c.turn-turn.ensures
