@@ -2,7 +2,7 @@
 pub mod Stores
 pub mod Putting
 pub mod Lengths
-pub mod Told
+pub mod Tells
 pub mod Which
 pub mod Walk
 pub mod Whole

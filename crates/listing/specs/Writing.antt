@@ -1,5 +1,5 @@
 -- What the parts of the code that writes the listings promise.
-use Rattle.std.specs.Prelude.{ℕ, suc, ◌+◌, ◌*◌, ◌≤◌, Bool, true, false, ◌≡◌, List, [], ◌∷◌, ◌++◌, eqb, ltb, length}
+use Rattle.std.specs.Prelude.{ℕ, suc, ◌+◌, ◌*◌, ◌≤◌, ◌≡◌, Option, Some, None, List, [], ◌∷◌, ◌++◌, eqb, length}
 use Rattle.std.proofs.lemmas.List.Edits.{sets}
 use Rattle.law.specs.Words.{pick}
 use Rattle.record.specs.declared.Chip.{Chip}
@@ -7,9 +7,10 @@ use Rattle.record.specs.declared.Record.{Record}
 use Rattle.record.specs.Lengths.{result_length}
 use Rattle.field.specs.Room.{room}
 use Rattle.times.specs.Times.{pages_of, first_entry}
+use Rattle.listing.specs.declared.told.Told.{Told}
 use Rattle.listing.specs.Bytes.{was_played, reply_at, answer_in, place_in, count_in, field_in}
 use Rattle.listing.specs.Lines.{heading, refused_line}
-use Rattle.listing.specs.Listing.{Listed, record_lines, listing_room}
+use Rattle.listing.specs.Listing.{Listed, record_lines}
 use Rattle.listing.specs.Pages.{lines_below, time_at}
 
 -- the records before the first that was not played; the first of them is record k
@@ -41,9 +42,9 @@ pub record ListsLines (w old : List ℕ) (from most : ℕ) (new : List ℕ) (n :
 abbrev pub chip_lines : Chip → List ℕ → List ℕ
 chip_lines chip table = lines_below chip (λ n. time_at table (first_entry chip + n)) (pages_of chip)
 
--- is the result of its length, and has an output of so many bytes room for any listing?
-unfoldable pub is_ready : List ℕ → ℕ → Bool
-is_ready result bytes = pick (eqb (length result) result_length) (pick (ltb bytes listing_room) false true) false
+-- the numbers of a result of its length; none of another
+unfoldable pub told_of : List ℕ → Option Told
+told_of result = pick (eqb (length result) result_length) (Some (record { answer = answer_in result; place = place_in result; count = count_in result; field = field_in result })) None
 
 -- of a result of its length: the line of the refusal that it tells, and its count; of any other nothing
 unfoldable pub refusal_of : List ℕ → List ℕ

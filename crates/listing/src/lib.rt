@@ -10,14 +10,14 @@ ghost use Rattle.listing.specs.Pages.{ListsPages};
 ghost use Rattle.listing.specs.Writing.{ListsPlayed, ListsRecords};
 
 mod bytes;
-mod ends;
 mod lines;
 mod output;
 mod pages;
+mod told;
 
-pub use ends::{count_of, refusal_of};
 use field::Cursor;
-use line::{ReadBoard, ReadRecord};
+use told::Told;
+pub use told::{count_of, refusal_of};
 
 // Enough for any listing: a line for each reply, a heading and a last line.
 pub const ROOM: usize = field::ROOM * (record::REPLY_PLACES + 2);
@@ -29,21 +29,19 @@ fn list_from(text: &[u8], first: Cursor, replies: &[u8], out: &mut [u8], from: u
 {
     let mut at = from;
     let mut place = first.at;
-    let mut k: usize = 0;
-    while k < record::REPLY_PLACES {
-        let ReadRecord::Value(rec, next) = text::record_at(text, place) else {
-            return at;
+    for k in 0..record::REPLY_PLACES {
+        let Ok((rec, next)) = text::record_at(text, place) else {
+            break;
         };
         let reply = bytes::reply_at(replies, k);
         if !bytes::was_played(reply) {
-            return at;
+            break;
         }
         // Record k is on line k + 2.
         let number = (k + 2) as u32;
         let line = lines::record_line(number, rec.stamp, reply, bytes::match_at(replies, k));
         at = output::copy_line(line, out, at);
         place = next.at;
-        k += 1;
     }
     at
 }
@@ -53,7 +51,7 @@ fn list_records(text: &[u8], replies: &[u8], out: &mut [u8], from: usize) -> usi
     requires { (length replies.now ≡ replies_length) × (from ≤ room) × (listing_room ≤ length out.old) }
     ensures { ListsRecords (Listed text.now replies.now) replies.now out.old from out.new result }
 {
-    let ReadBoard::Value(_, first) = line::read_board(text, Cursor { at: 0 }) else {
+    let Ok((_, first)) = line::read_board(text, Cursor { at: 0 }) else {
         return from;
     };
     list_from(text, first, replies, out, from)
@@ -72,32 +70,32 @@ fn list_played(text: &[u8], replies: &[u8], out: &mut [u8]) -> usize
 pub fn list(text: &[u8], replies: &[u8], res: &[u8], out: &mut [u8]) -> usize
     ensures { Lists text.now replies.now res.now out.old out.new result }
 {
-    if replies.len() != record::REPLIES {
+    if replies.len() != record::REPLIES || out.len() < ROOM {
         return 0;
     }
-    if !ends::is_ready(res, out.len()) {
+    let Some(told) = Told::of(res) else {
         return 0;
-    }
-    if ends::refuses(res) {
-        return ends::list_refusal(res, out);
+    };
+    if told.refuses() {
+        return output::copy_line(told.refused_line(), out, 0);
     }
     let at = list_played(text, replies, out);
-    ends::list_last(res, out, at)
+    output::copy_line(told.last_line(), out, at)
 }
 
 // Formats the listing of the pages written from the table of times and the result of a replay, in the same way.
 pub fn list_pages(table: &[u8], res: &[u8], out: &mut [u8]) -> usize
     ensures { ListsPages table.now res.now out.old out.new result }
 {
-    if table.len() != times::TIMES {
+    if table.len() != times::TIMES || out.len() < ROOM {
         return 0;
     }
-    if !ends::is_ready(res, out.len()) {
+    let Some(told) = Told::of(res) else {
         return 0;
-    }
-    if ends::refuses(res) {
-        return ends::list_refusal(res, out);
+    };
+    if told.refuses() {
+        return output::copy_line(told.refused_line(), out, 0);
     }
     let at = pages::list_written(table, out);
-    ends::list_last(res, out, at)
+    output::copy_line(told.last_line(), out, at)
 }

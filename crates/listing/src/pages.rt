@@ -27,12 +27,9 @@ fn list_chip(table: &[u8], chip: Chip, out: &mut [u8], from: usize) -> usize
     requires { (length table.now ≡ times_length) × (from ≤ room * (first_entry chip + 1)) × (listing_room ≤ length out.old) }
     ensures { ListsLines (chip_lines chip table.now) out.old from (pages_of chip) out.new result }
 {
-    let many = times::pages_of(chip);
     let mut at = from;
-    let mut n: u32 = 0;
-    while n < many {
+    for n in 0..times::pages_of(chip) {
         at = list_page(table, chip, n, out, at);
-        n += 1;
     }
     at
 }

@@ -33,7 +33,7 @@ use Rattle.listing.specs.Bytes.{answer_in, place_in, count_in, field_in}
 use Rattle.listing.specs.Lines.{refused_line}
 use Rattle.listing.specs.Writing.{refusal_of, count_of}
 use Rattle.listing.proofs.Lengths.{holds}
-use Rattle.listing.proofs.Told.{refusal_told, count_told}
+use Rattle.listing.proofs.Tells.{refusal_told, count_told}
 use Rattle.printing.specs.Printed.{Written}
 use Rattle.printing.specs.MergePrinted.{printed_for, is_merged, merge_room, PrintsMerge}
 use Rattle.printing.proofs.Numbers.{answer_back, place_back, count_back, field_back}

@@ -1,29 +1,31 @@
 use native.Mathlib.Omega.{arith}
+use mathlib.Core.Path.{sym, ◌∙◌}
+use mathlib.Core.Logic.{⊎_elim}
 use borrow.Author.Rules.{rules}
 use Rattle.law.specs.Choice.{via}
-use Rattle.listing.proofs.Whole.{ready_says, other_listed, not_ready, refused, ended, played_lines, lists, lists_played}
+use Rattle.listing.proofs.Lengths.{refused_length, last_length, fits}
+use Rattle.listing.proofs.Whole.{other_listed, no_room, lists, lists_played, played_lines, untold, other_result, line_written, refused, ended}
 use Rattle.listing.proofs.list.Goals as goal
 
-pub returns-then-replies-ne-REPLIES : goal.returns-then-replies-ne-REPLIES
-returns-then-replies-ne-REPLIES c = lists (λ lines. other_listed _ _ _ _ _ c.if-replies-ne-REPLIES.true)
+pub returns-in_default : goal.returns-in_default
+returns-in_default c = lists (λ lines. other_result _ _ _ _ _ (untold _ (sym c.of.ensures ∙ c.in_default.is)))
 
-pub returns-then-not-is_ready : goal.returns-then-not-is_ready
-returns-then-not-is_ready c = lists (λ lines. not_ready _ _ _ _ _ c.if-replies-ne-REPLIES.false (via c.is_ready.ensures c.if-not-is_ready.true))
-
-pub refuses-requires : goal.refuses-requires
-refuses-requires c = (ready_says _ _ (via c.is_ready.ensures c.if-not-is_ready.false)).0
-
-pub list_refusal-requires : goal.list_refusal-requires
-list_refusal-requires c = let r = ready_says _ _ (via c.is_ready.ensures c.if-not-is_ready.false) in (r.0, via c.refuses.ensures c.if-refuses.true, omega (arith, r.1))
+pub copy_line-requires : goal.copy_line-requires
+copy_line-requires c = (fits _ c.refused_line.ensures (refused_length _ _ _ (via c.refuses.ensures c.if-refuses.true) (search rules) (search rules)), omega arith)
 
 pub returns-then-refuses : goal.returns-then-refuses
-returns-then-refuses c = lists (λ lines. refused _ _ _ _ c.if-replies-ne-REPLIES.false (via c.is_ready.ensures c.if-not-is_ready.false) _ lines (via c.refuses.ensures c.if-refuses.true) c.list_refusal.ensures)
+returns-then-refuses c =
+    let l = line_written _ _ _ _ _ c.refused_line.ensures (refused_length _ _ _ (via c.refuses.ensures c.if-refuses.true) (search rules) (search rules)) c.copy_line.ensures.0 c.copy_line.ensures.1 in
+    lists (λ lines. refused _ _ _ _ c.if-replies-ne-REPLIES.false (omega arith) (sym c.of.ensures ∙ c.in-Some.is) _ _ (via c.refuses.ensures c.if-refuses.true) l)
 
-pub list_played-at-requires : goal.list_played-at-requires
-list_played-at-requires c = let r = ready_says _ _ (via c.is_ready.ensures c.if-not-is_ready.false) in (search rules, omega (arith, r.1))
-
-pub list_last-requires : goal.list_last-requires
-list_last-requires c = let r = ready_says _ _ (via c.is_ready.ensures c.if-not-is_ready.false) in (r.0, omega (arith, r.1, (played_lines c.if-replies-ne-REPLIES.false c.list_played-at.ensures).space, c.list_played-at.auto.out))
+pub copy_line-requires-2 : goal.copy_line-requires-2
+copy_line-requires-2 c = (fits _ c.last_line.ensures (last_length _ _ _ (search rules) (search rules) (search rules)), omega (arith, (played_lines c.if-replies-ne-REPLIES.false c.list_played-at.ensures).space, c.list_played-at.auto.out))
 
 pub returns : goal.returns
-returns c = let p = c.list_played-at.ensures in lists_played p (ended _ _ _ _ c.if-replies-ne-REPLIES.false (via c.is_ready.ensures c.if-not-is_ready.false) _ _ (via c.refuses.ensures c.if-refuses.false) (omega arith) (played_lines c.if-replies-ne-REPLIES.false p) c.list_last.ensures)
+returns c =
+    let p = c.list_played-at.ensures in
+    let l = line_written _ _ _ _ _ c.last_line.ensures (last_length _ _ _ (search rules) (search rules) (search rules)) c.copy_line-2.ensures.0 c.copy_line-2.ensures.1 in
+    lists_played p (ended _ _ _ _ c.if-replies-ne-REPLIES.false (omega arith) (sym c.of.ensures ∙ c.in-Some.is) _ _ (via c.refuses.ensures c.if-refuses.false) (omega arith) (played_lines c.if-replies-ne-REPLIES.false p) l)
+
+pub returns-then-replies-ne-REPLIES : goal.returns-then-replies-ne-REPLIES
+returns-then-replies-ne-REPLIES c = lists (λ lines. ⊎_elim (other_listed _ _ _ _ _) (λ w. no_room _ _ _ _ _ w.1) c.then-replies-ne-REPLIES.either)

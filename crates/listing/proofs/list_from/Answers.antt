@@ -1,6 +1,5 @@
 use native.Mathlib.Omega.{arith}
-use mathlib.Core.Path.{refl}
-use Rattle.line.proofs.Apart.{tells_record}
+use Rattle.field.proofs.Answers.{tells_got}
 use Rattle.field.proofs.Reading.{got_none, got_one}
 use Rattle.listing.proofs.Lengths.{record_length, fits}
 use Rattle.listing.proofs.Which.{beyond}
@@ -8,19 +7,19 @@ use Rattle.listing.proofs.Walk.{begun, over, unplayed, onward}
 use Rattle.listing.proofs.list_from.Goals as goal
 
 pub loop-k-init : goal.loop-k-init
-loop-k-init c = (omega arith, refl, begun _ _ _ _ _)
+loop-k-init c = begun _ _ _ _ _
 
 pub returns-in_default : goal.returns-in_default
-returns-in_default c = over c.loop-k.invariant.2 (λ r o s. absurd (got_none tells_record c.record_at.ensures c.in_default.is r o s))
+returns-in_default c = over c.loop-k.invariant (λ r o s. absurd (got_none tells_got c.record_at.ensures c.in_default.is r o s))
 
 pub returns-then-not-was_played : goal.returns-then-not-was_played
-returns-then-not-was_played c = unplayed c.loop-k.invariant.2 c.reply_at-reply.ensures c.was_played.ensures c.if-not-was_played.true
+returns-then-not-was_played c = unplayed c.loop-k.invariant c.reply_at-reply.ensures c.was_played.ensures c.if-not-was_played.true
 
 pub copy_line-at-requires : goal.copy_line-at-requires
-copy_line-at-requires c = let g = got_one tells_record c.record_at.ensures _ _ c.in-Value.is in (fits _ c.record_line-line.ensures (record_length _ _ (omega arith) g.ok.0 _ _), omega (arith, c.loop-k.invariant.2.space))
+copy_line-at-requires c = let g = got_one tells_got c.record_at.ensures _ _ c.in-Ok.is in (fits _ c.record_line-line.ensures (record_length _ _ (omega arith) g.ok.0 _ _), omega (arith, c.loop-k.invariant.space))
 
 pub loop-k-preserved : goal.loop-k-preserved
-loop-k-preserved c = (omega arith, omega (arith, c.copy_line-at.auto.out), onward c.loop-k.invariant.2 c.reply_at-reply.ensures c.was_played.ensures c.if-not-was_played.false (got_one tells_record c.record_at.ensures _ _ c.in-Value.is) c.match_at.ensures c.loop-k-test.true c.record_line-line.ensures c.copy_line-at.ensures.0 c.copy_line-at.ensures.1)
+loop-k-preserved c = onward c.loop-k.invariant c.reply_at-reply.ensures c.was_played.ensures c.if-not-was_played.false (got_one tells_got c.record_at.ensures _ _ c.in-Ok.is) c.match_at.ensures c.loop-k-test.true c.record_line-line.ensures c.copy_line-at.ensures.0 c.copy_line-at.ensures.1
 
-pub returns : goal.returns
-returns c = over c.loop-k.invariant.2 (λ r o s. beyond _ _ (omega arith))
+pub returns-after-loop-k : goal.returns-after-loop-k
+returns-after-loop-k c = over c.loop-k.invariant (λ r o s. beyond _ _ (omega arith))

@@ -1,26 +1,26 @@
 use native.Mathlib.Omega.{arith}
+use mathlib.Core.Path.{sym, ◌∙◌}
 use borrow.Author.Rules.{rules}
 use Rattle.law.specs.Choice.{via}
-use Rattle.listing.proofs.Whole.{ready_says, not_ready, refused, ended}
+use Rattle.listing.proofs.Lengths.{refused_length, last_length, fits}
+use Rattle.listing.proofs.Whole.{untold, other_result, line_written, refused, ended}
 use Rattle.listing.proofs.list_pages.Goals as goal
 
-pub returns-then-not-is_ready : goal.returns-then-not-is_ready
-returns-then-not-is_ready c = not_ready _ _ _ _ _ c.if-table-ne-TIMES.false (via c.is_ready.ensures c.if-not-is_ready.true)
+pub returns-in_default : goal.returns-in_default
+returns-in_default c = other_result _ _ _ _ _ (untold _ (sym c.of.ensures ∙ c.in_default.is))
 
-pub refuses-requires : goal.refuses-requires
-refuses-requires c = (ready_says _ _ (via c.is_ready.ensures c.if-not-is_ready.false)).0
-
-pub list_refusal-requires : goal.list_refusal-requires
-list_refusal-requires c = let r = ready_says _ _ (via c.is_ready.ensures c.if-not-is_ready.false) in (r.0, via c.refuses.ensures c.if-refuses.true, omega (arith, r.1))
+pub copy_line-requires : goal.copy_line-requires
+copy_line-requires c = (fits _ c.refused_line.ensures (refused_length _ _ _ (via c.refuses.ensures c.if-refuses.true) (search rules) (search rules)), omega arith)
 
 pub returns-then-refuses : goal.returns-then-refuses
-returns-then-refuses c = refused _ _ _ _ c.if-table-ne-TIMES.false (via c.is_ready.ensures c.if-not-is_ready.false) _ _ (via c.refuses.ensures c.if-refuses.true) c.list_refusal.ensures
+returns-then-refuses c =
+    let l = line_written _ _ _ _ _ c.refused_line.ensures (refused_length _ _ _ (via c.refuses.ensures c.if-refuses.true) (search rules) (search rules)) c.copy_line.ensures.0 c.copy_line.ensures.1 in
+    refused _ _ _ _ c.if-table-ne-TIMES.false (omega arith) (sym c.of.ensures ∙ c.in-Some.is) _ _ (via c.refuses.ensures c.if-refuses.true) l
 
-pub list_written-at-requires : goal.list_written-at-requires
-list_written-at-requires c = let r = ready_says _ _ (via c.is_ready.ensures c.if-not-is_ready.false) in (search rules, omega (arith, r.1))
-
-pub list_last-requires : goal.list_last-requires
-list_last-requires c = let r = ready_says _ _ (via c.is_ready.ensures c.if-not-is_ready.false) in (r.0, omega (arith, r.1, c.list_written-at.ensures.space, c.list_written-at.auto.out))
+pub copy_line-requires-2 : goal.copy_line-requires-2
+copy_line-requires-2 c = (fits _ c.last_line.ensures (last_length _ _ _ (search rules) (search rules) (search rules)), omega (arith, c.list_written-at.ensures.space, c.list_written-at.auto.out))
 
 pub returns : goal.returns
-returns c = ended _ _ _ _ c.if-table-ne-TIMES.false (via c.is_ready.ensures c.if-not-is_ready.false) _ _ (via c.refuses.ensures c.if-refuses.false) (omega arith) c.list_written-at.ensures c.list_last.ensures
+returns c =
+    let l = line_written _ _ _ _ _ c.last_line.ensures (last_length _ _ _ (search rules) (search rules) (search rules)) c.copy_line-2.ensures.0 c.copy_line-2.ensures.1 in
+    ended _ _ _ _ c.if-table-ne-TIMES.false (omega arith) (sym c.of.ensures ∙ c.in-Some.is) _ _ (via c.refuses.ensures c.if-refuses.false) (omega arith) c.list_written-at.ensures l
