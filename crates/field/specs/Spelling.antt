@@ -1,20 +1,15 @@
--- Bytes that are put one after another into a spelling.
-use Rattle.std.specs.Prelude.{ℕ, ◌+◌, List, [], ◌∷◌, leb, take, set, replicate}
+-- Bytes that are put one after another into a spelling, which is seen as the bytes that it holds.
+use Rattle.std.specs.Prelude.{ℕ, List, [], ◌∷◌, ◌++◌, leb, length}
 use Rattle.law.specs.Words.{pick}
-use Rattle.field.specs.declared.spelling.Spelling.{Spelling}
 use Rattle.field.specs.Room.{room}
 
--- the bytes that it holds
-abbrev pub held : Spelling → List ℕ
-held s = take s.len s.bytes
-
-abbrev pub no_bytes : Spelling
-no_bytes = record { bytes = replicate room 0; len = 0 }
+abbrev pub no_bytes : List ℕ
+no_bytes = []
 
 -- one byte more, if there is room
-abbrev pub put_byte : Spelling → ℕ → Spelling
-put_byte s b = pick (leb room s.len) s (record { bytes = set s.bytes s.len b; len = s.len + 1 })
+abbrev pub put_byte : List ℕ → ℕ → List ℕ
+put_byte s b = pick (leb room (length s)) s (s ++ (b ∷ []))
 
-unfoldable pub put_all : Spelling → List ℕ → Spelling
+unfoldable pub put_all : List ℕ → List ℕ → List ℕ
 put_all s [] = s
 put_all s (b ∷ w) = put_all (put_byte s b) w

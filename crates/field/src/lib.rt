@@ -14,7 +14,7 @@ pub use decimal::read_decimal;
 pub use digit::read_digit;
 pub use ending::{FieldEnd, read_end};
 pub use hex::read_hex;
-pub use spelling::{ROOM, Spelling, no_bytes, put_decimal, put_hex, put_word};
+pub use spelling::{ROOM, Spelling};
 pub use word::read_word;
 
 // A place in a text.

@@ -11,7 +11,6 @@ use Rattle.law.specs.Choice.{split, both}
 use Rattle.law.specs.Words.{pick}
 use Rattle.record.specs.declared.Board.{Board}
 use Rattle.record.specs.Status.{StatusOk}
-use Rattle.field.specs.declared.spelling.Spelling.{Spelling}
 use Rattle.field.specs.Decimal.{decimal}
 use Rattle.field.specs.Ends.{tab, lf}
 use Rattle.field.specs.Fields.{one_of, same}
@@ -134,7 +133,7 @@ module _ {text : List ℕ} {at : ℕ} where
             (λ y o. (((a.ok, o), refl), refl)) (λ y. refl) d))
 
 -- ---- a board's line is put
-pub put_from_nothing : (b : Board) {s s1 s2 s3 s4 s5 s6 r : Spelling} → BoardOk b → s ≡ no_bytes → s1 ≡ put_all s (98 ∷ 111 ∷ 97 ∷ 114 ∷ 100 ∷ 9 ∷ []) → s2 ≡ put_all s1 (hex_field b.status) → s3 ≡ put_all s2 (9 ∷ [])
+pub put_from_nothing : (b : Board) {s s1 s2 s3 s4 s5 s6 r : List ℕ} → BoardOk b → s ≡ no_bytes → s1 ≡ put_all s (98 ∷ 111 ∷ 97 ∷ 114 ∷ 100 ∷ 9 ∷ []) → s2 ≡ put_all s1 (hex_field b.status) → s3 ≡ put_all s2 (9 ∷ [])
     → s4 ≡ put_all s3 (decimal b.sector) → s5 ≡ put_all s4 (9 ∷ []) → s6 ≡ put_all s5 (decimal b.address) → r ≡ put_all s6 (10 ∷ []) → r ≡ put_all no_bytes (spelled_board b)
 unfolding spelled_board spelled_places digit_field
 put_from_nothing b {s} {s1} {s2} {s3} {s4} {s5} {s6} o e e1 e2 e3 e4 e5 e6 e7 =
@@ -144,4 +143,4 @@ put_from_nothing b {s} {s1} {s2} {s3} {s4} {s5} {s6} o e e1 e2 e3 e4 e5 e6 e7 =
     (put_on s3 (digit_field b.sector) (9 ∷ (digit_field b.address ++ (10 ∷ []))) (e4 ∙ ap (λ (w : List ℕ). put_all s3 w) (decimal_digit b.sector (omega arith)))
     (put_on s4 (9 ∷ []) (digit_field b.address ++ (10 ∷ [])) e5
     (put_on s5 (digit_field b.address) (10 ∷ []) (e6 ∙ ap (λ (w : List ℕ). put_all s5 w) (decimal_digit b.address (omega arith))) e7)))))
-    ∙ ap (λ (k : Spelling). put_all k (spelled_board b)) e
+    ∙ ap (λ (k : List ℕ). put_all k (spelled_board b)) e

@@ -14,7 +14,6 @@ use Rattle.law.specs.Words.{pick}
 use Rattle.record.specs.declared.Event.{Event}
 use Rattle.record.specs.declared.EepromEvent.{EepromEvent}
 use Rattle.record.specs.declared.EepromEvent.TheVariants.{Start, Byte, Cut, Stop, End}
-use Rattle.field.specs.declared.spelling.Spelling.{Spelling}
 use Rattle.field.specs.Ends.{tab_byte, tab, lf}
 use Rattle.field.specs.Fields.{one_of, same}
 use Rattle.field.specs.Hex.{hex_field}
@@ -236,6 +235,6 @@ module _ {text : List ℕ} {at : ℕ} where
         (reads_as (λ x. Byte x.0 x.1) b_fields (λ x o. (o, refl)) (λ x. refl) d)
 
 -- ---- a byte and its acknowledge bit are put
-pub put_data : (s : Spelling) (b : ℕ) (a : Bool) {s1 s2 r : Spelling} → s1 ≡ put_all s (98 ∷ 9 ∷ []) → s2 ≡ put_all s1 (hex_field b) → r ≡ put_all s2 (spelled_bit a) → r ≡ put_all s (spelled_eeprom (Byte b a))
+pub put_data : (s : List ℕ) (b : ℕ) (a : Bool) {s1 s2 r : List ℕ} → s1 ≡ put_all s (98 ∷ 9 ∷ []) → s2 ≡ put_all s1 (hex_field b) → r ≡ put_all s2 (spelled_bit a) → r ≡ put_all s (spelled_eeprom (Byte b a))
 unfolding spelled_eeprom spelled_bit
 put_data s b a {s1} e f g = put_on s (98 ∷ 9 ∷ []) (hex_field b ++ spelled_bit a) e (put_on s1 (hex_field b) (spelled_bit a) f g)

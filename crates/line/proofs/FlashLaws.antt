@@ -12,7 +12,6 @@ use Rattle.law.specs.Words.{pick}
 use Rattle.record.specs.declared.Event.{Event}
 use Rattle.record.specs.declared.FlashEvent.{FlashEvent}
 use Rattle.record.specs.declared.FlashEvent.TheVariants.{Select, Byte, Cut, Deselect, End}
-use Rattle.field.specs.declared.spelling.Spelling.{Spelling}
 use Rattle.field.specs.Ends.{tab_byte, tab, lf}
 use Rattle.field.specs.Fields.{one_of, same}
 use Rattle.field.specs.Hex.{hex_field}
@@ -212,7 +211,7 @@ module _ {text : List ℕ} {at : ℕ} where
         (reads_as (λ x. Byte x.0 x.1) x_bytes (λ x o. (o, refl)) (λ x. refl) d)
 
 -- ---- a byte each way is put
-pub put_pair : (s : Spelling) (si so : ℕ) {s1 s2 s3 s4 r : Spelling} → s1 ≡ put_all s (120 ∷ 9 ∷ []) → s2 ≡ put_all s1 (hex_field si) → s3 ≡ put_all s2 (9 ∷ []) → s4 ≡ put_all s3 (hex_field so) → r ≡ put_all s4 (10 ∷ [])
+pub put_pair : (s : List ℕ) (si so : ℕ) {s1 s2 s3 s4 r : List ℕ} → s1 ≡ put_all s (120 ∷ 9 ∷ []) → s2 ≡ put_all s1 (hex_field si) → s3 ≡ put_all s2 (9 ∷ []) → s4 ≡ put_all s3 (hex_field so) → r ≡ put_all s4 (10 ∷ [])
     → r ≡ put_all s (spelled_flash (Byte si so))
 unfolding spelled_flash
 put_pair s si so {s1} {s2} {s3} a b c d e =

@@ -1,12 +1,10 @@
 -- A line that was put together is copied out; how long lines are.
-use Prim.Native.Nat.{ℕ, suc, ◌+◌, ◌≤◌, ◌<◌}
+use Prim.Native.Nat.{ℕ, ◌+◌, ◌≤◌, ◌<◌}
 use native.Mathlib.Omega.{arith}
-use native.Mathlib.Numerals.{add-one}
-use mathlib.Core.Path.{◌≡◌, refl, sym, ap, subst, ◌∙◌}
+use mathlib.Core.Path.{◌≡◌, refl, ap, subst, ◌∙◌}
 use mathlib.Core.Bool.{true, false}
-use mathlib.Core.List.{List, [], ◌++◌}
-use lib.ListN.{length, take, drop, get_or, set, length-append}
-use lib.Seq.{take-suc, drop-cons, set_at, append_snoc, length-take-le}
+use mathlib.Core.List.{List, ◌++◌}
+use lib.ListN.{length, drop, length-append}
 use borrow.Author.Tests.{lt-ltb, le-ltb}
 use Rattle.record.specs.declared.FlashEvent.{FlashEvent}
 use Rattle.record.specs.declared.EepromEvent.{EepromEvent}
@@ -14,14 +12,12 @@ use Rattle.record.specs.declared.LineEvent.{LineEvent}
 use Rattle.record.specs.declared.Event.{Event}
 use Rattle.record.specs.declared.Record.{Record}
 use Rattle.record.specs.declared.Board.{Board}
-use Rattle.field.specs.declared.spelling.Spelling.{Spelling}
 use Rattle.field.specs.Decimal.{largest, decimal}
 use Rattle.field.specs.Ends.{tab}
 use Rattle.field.specs.Hex.{hex_field}
 use Rattle.field.specs.Digit.{digit_field}
 use Rattle.field.specs.Spelling.{no_bytes, put_all}
-use Rattle.field.specs.Room.{room}
-use Rattle.field.proofs.SpellingLaws.{Holds, holds_all, digits_count}
+use Rattle.field.proofs.SpellingLaws.{holds, digits_count}
 use Rattle.line.specs.ChannelF.{spelled_flash}
 use Rattle.line.specs.ChannelE.{spelled_eeprom}
 use Rattle.line.specs.ChannelL.{spelled_line}
@@ -32,15 +28,6 @@ use Rattle.std.specs.Prelude.{Result, Ok, Err}
 use Rattle.line.specs.declared.output.WriteError.{WriteError}
 
 -- ---- copying
--- a turn of the loop
-pub copy_step : (d s : List ℕ) (j : ℕ) → j < length d → j < length s → set (take j s ++ drop j d) j (get_or s j 0) ≡ take (j + 1) s ++ drop (j + 1) d
-copy_step d s j hd hs =
-    rw add-one
-    (ap (λ (r : List ℕ). set (take j s ++ r) j (get_or s j 0)) (drop-cons d j 0 hd)
-    ∙ set_at (take j s) (get_or d j 0) (drop (suc j) d) (get_or s j 0) j (length-take-le j s (omega arith))
-    ∙ sym (append_snoc (take j s) (get_or s j 0) (drop (suc j) d))
-    ∙ ap (λ (r : List ℕ). r ++ drop (suc j) d) (sym (take-suc s j 0 hs)))
-
 pub wrote_not : (w old : List ℕ) → length old < length w → Wrote w old old (Err WriteError.TooShort)
 wrote_not w old h = record { answer = simp (lt-ltb (length old) (length w) h); content = simp (lt-ltb (length old) (length w) h) }
 
@@ -108,11 +95,8 @@ unfolding spelled_board spelled_places hex_field digit_field
 board_length b = refl
 
 -- ---- a line put together from nothing holds just its bytes
-from_nothing : (w : List ℕ) {s : Spelling} → s ≡ put_all no_bytes w → length w ≤ room → Holds s w
-from_nothing w e h = subst (λ (k : Spelling). Holds k w) (sym e) (holds_all no_bytes [] w (record { bytes = refl; len = refl; whole = refl }) (omega arith))
+pub fits_board : (b : Board) {s : List ℕ} → s ≡ put_all no_bytes (spelled_board b) → s ≡ spelled_board b
+fits_board b e = holds (spelled_board b) e (omega (arith, board_length b))
 
-pub fits_board : (b : Board) {s : Spelling} → s ≡ put_all no_bytes (spelled_board b) → Holds s (spelled_board b)
-fits_board b e = from_nothing (spelled_board b) e (omega (arith, board_length b))
-
-pub fits_record : (r : Record) {s : Spelling} → r.stamp ≤ largest → s ≡ put_all no_bytes (spelled r) → Holds s (spelled r)
-fits_record r h e = from_nothing (spelled r) e (omega (arith, spelled_length_max r h))
+pub fits_record : (r : Record) {s : List ℕ} → r.stamp ≤ largest → s ≡ put_all no_bytes (spelled r) → s ≡ spelled r
+fits_record r h e = holds (spelled r) e (omega (arith, spelled_length_max r h))

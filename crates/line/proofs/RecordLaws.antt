@@ -14,7 +14,6 @@ use Rattle.record.specs.declared.LineEvent.{LineEvent}
 use Rattle.record.specs.declared.Event.{Event}
 use Rattle.record.specs.declared.Event.TheVariants.{Flash, Eeprom, Line}
 use Rattle.record.specs.declared.Record.{Record}
-use Rattle.field.specs.declared.spelling.Spelling.{Spelling}
 use Rattle.field.specs.Decimal.{largest, decimal, is_decimal}
 use Rattle.field.specs.Ends.{tab}
 use Rattle.field.specs.Fields.{fields_of, first_bad, one_of, same}
@@ -178,7 +177,7 @@ module _ {text : List ℕ} {at : ℕ} where
           stamps m o e = a.only m (o, a.ok.1 ∙ e) (content_stands text at (decimal m) (a.ok.1 ∙ e))
 
 -- ---- an event is put
-module _ (s : Spelling) {s1 r : Spelling} where
+module _ (s : List ℕ) {s1 r : List ℕ} where
   pub put_event_flash : (e : FlashEvent) → s1 ≡ put_all s (70 ∷ 9 ∷ []) → r ≡ put_all s1 (spelled_flash e) → r ≡ put_all s (spelled_event (Flash e))
   unfolding spelled_event
   put_event_flash e a b = put_on s (70 ∷ 9 ∷ []) (spelled_flash e) a b
@@ -192,8 +191,8 @@ module _ (s : Spelling) {s1 r : Spelling} where
   put_event_line e a b = put_on s (76 ∷ 9 ∷ []) (spelled_line e) a b
 
 -- a record's line is put
-pub put_record : (x : Record) {s s1 s2 r : Spelling} → s ≡ no_bytes → s1 ≡ put_all s (decimal x.stamp) → s2 ≡ put_all s1 tab → r ≡ put_all s2 (spelled_event x.event) → r ≡ put_all no_bytes (spelled x)
+pub put_record : (x : Record) {s s1 s2 r : List ℕ} → s ≡ no_bytes → s1 ≡ put_all s (decimal x.stamp) → s2 ≡ put_all s1 tab → r ≡ put_all s2 (spelled_event x.event) → r ≡ put_all no_bytes (spelled x)
 unfolding spelled
 put_record x {s} {s1} {s2} n e f g =
     put_on s (decimal x.stamp) (tab ++ spelled_event x.event) e (put_on s1 tab (spelled_event x.event) f g)
-    ∙ ap (λ (k : Spelling). put_all k (spelled x)) n
+    ∙ ap (λ (k : List ℕ). put_all k (spelled x)) n

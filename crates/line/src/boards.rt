@@ -59,13 +59,14 @@ fn put_board(b: Board) -> Spelling
     requires { BoardOk b }
     ensures { result ≡ put_all no_bytes (spelled_board b) }
 {
-    let s1 = field::put_word(field::no_bytes(), b"board\t");
-    let s2 = field::put_hex(s1, b.status);
-    let s3 = field::put_word(s2, b"\t");
-    let s4 = field::put_decimal(s3, b.sector as u32);
-    let s5 = field::put_word(s4, b"\t");
-    let s6 = field::put_decimal(s5, b.address as u32);
-    field::put_word(s6, b"\n")
+    Spelling::new()
+        .word(b"board\t")
+        .hex(b.status)
+        .word(b"\t")
+        .decimal(b.sector as u32)
+        .word(b"\t")
+        .decimal(b.address as u32)
+        .word(b"\n")
 }
 
 // Writes a board's line to the front of an output; how many bytes it has.
@@ -75,5 +76,6 @@ pub fn write_board(b: Board, out: &mut [u8]) -> Result<usize, WriteError>
     if !in_range(b) {
         return Err(WriteError::OutOfRange);
     }
-    crate::output::copy_out(put_board(b), out)
+    let line = put_board(b);
+    crate::output::copy_out(line.as_slice(), out)
 }

@@ -45,23 +45,20 @@ fn put_bit(s: Spelling, ack: bool) -> Spelling
     ensures { result ≡ put_all s (spelled_bit ack) }
 {
     if ack {
-        return field::put_word(s, b"\t1\n");
+        s.word(b"\t1\n")
+    } else {
+        s.word(b"\t0\n")
     }
-    field::put_word(s, b"\t0\n")
 }
 
 pub fn put_eeprom(s: Spelling, e: EepromEvent) -> Spelling
     ensures { result ≡ put_all s (spelled_eeprom e) }
 {
     match e {
-        EepromEvent::Start => field::put_word(s, b"sta\n"),
-        EepromEvent::Byte(byte, ack) => {
-            let s1 = field::put_word(s, b"b\t");
-            let s2 = field::put_hex(s1, byte);
-            put_bit(s2, ack)
-        }
-        EepromEvent::Cut => field::put_word(s, b"cut\n"),
-        EepromEvent::Stop => field::put_word(s, b"sto\n"),
-        EepromEvent::End => field::put_word(s, b"end\n"),
+        EepromEvent::Start => s.word(b"sta\n"),
+        EepromEvent::Byte(byte, ack) => put_bit(s.word(b"b\t").hex(byte), ack),
+        EepromEvent::Cut => s.word(b"cut\n"),
+        EepromEvent::Stop => s.word(b"sto\n"),
+        EepromEvent::End => s.word(b"end\n"),
     }
 }

@@ -45,16 +45,10 @@ pub fn put_flash(s: Spelling, e: FlashEvent) -> Spelling
     ensures { result ≡ put_all s (spelled_flash e) }
 {
     match e {
-        FlashEvent::Select => field::put_word(s, b"sel\n"),
-        FlashEvent::Byte(si, so) => {
-            let s1 = field::put_word(s, b"x\t");
-            let s2 = field::put_hex(s1, si);
-            let s3 = field::put_word(s2, b"\t");
-            let s4 = field::put_hex(s3, so);
-            field::put_word(s4, b"\n")
-        }
-        FlashEvent::Cut => field::put_word(s, b"cut\n"),
-        FlashEvent::Deselect => field::put_word(s, b"des\n"),
-        FlashEvent::End => field::put_word(s, b"end\n"),
+        FlashEvent::Select => s.word(b"sel\n"),
+        FlashEvent::Byte(si, so) => s.word(b"x\t").hex(si).word(b"\t").hex(so).word(b"\n"),
+        FlashEvent::Cut => s.word(b"cut\n"),
+        FlashEvent::Deselect => s.word(b"des\n"),
+        FlashEvent::End => s.word(b"end\n"),
     }
 }

@@ -29,9 +29,9 @@ pub fn put_line(s: Spelling, e: LineEvent) -> Spelling
     ensures { result ≡ put_all s (spelled_line e) }
 {
     match e {
-        LineEvent::SupplyOn => field::put_word(s, b"on\n"),
-        LineEvent::SupplyOff => field::put_word(s, b"off\n"),
-        LineEvent::LockOn => field::put_word(s, b"lock\n"),
-        LineEvent::LockOff => field::put_word(s, b"free\n"),
+        LineEvent::SupplyOn => s.word(b"on\n"),
+        LineEvent::SupplyOff => s.word(b"off\n"),
+        LineEvent::LockOn => s.word(b"lock\n"),
+        LineEvent::LockOff => s.word(b"free\n"),
     }
 }

@@ -1,10 +1,5 @@
 // A line that was put together is written out (document 01, refusals 9 and 10).
-ghost use Rattle.std.specs.Prelude.{◌≤◌};
-ghost use Rattle.field.specs.Spelling.{held};
-ghost use Rattle.field.specs.Room.{room};
 ghost use Rattle.line.specs.Output.{Wrote};
-
-use field::Spelling;
 
 // Why no line was written: what was given is out of range, or the output is too short for the line.
 #[derive(Clone, Copy, Debug, PartialEq, Eq)]
@@ -13,15 +8,14 @@ pub enum WriteError {
     TooShort,
 }
 
-// Copies the bytes held to the front of the output, if there is room for all; how many they are.
-pub(crate) fn copy_out(s: Spelling, out: &mut [u8]) -> Result<usize, WriteError>
-    requires { s.len ≤ room }
-    ensures { Wrote (held s) out.old out.new result }
+// Copies the bytes to the front of the output, if there is room for all; how many they are.
+pub(crate) fn copy_out(bytes: &[u8], out: &mut [u8]) -> Result<usize, WriteError>
+    ensures { Wrote bytes.now out.old out.new result }
 {
-    let n = s.len;
+    let n = bytes.len();
     if out.len() < n {
         return Err(WriteError::TooShort);
     }
-    out[..n].copy_from_slice(&s.bytes[..n]);
+    out[..n].copy_from_slice(bytes);
     Ok(n)
 }

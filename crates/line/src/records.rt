@@ -41,9 +41,9 @@ fn put_event(s: Spelling, e: Event) -> Spelling
     ensures { result ≡ put_all s (spelled_event e) }
 {
     match e {
-        Event::Flash(f) => crate::channel_f::put_flash(field::put_word(s, b"F\t"), f),
-        Event::Eeprom(m) => crate::channel_e::put_eeprom(field::put_word(s, b"E\t"), m),
-        Event::Line(l) => crate::channel_l::put_line(field::put_word(s, b"L\t"), l),
+        Event::Flash(f) => crate::channel_f::put_flash(s.word(b"F\t"), f),
+        Event::Eeprom(m) => crate::channel_e::put_eeprom(s.word(b"E\t"), m),
+        Event::Line(l) => crate::channel_l::put_line(s.word(b"L\t"), l),
     }
 }
 
@@ -51,8 +51,7 @@ fn put_event(s: Spelling, e: Event) -> Spelling
 pub fn write_record(rec: Record, out: &mut [u8]) -> Result<usize, WriteError>
     ensures { Wrote (spelled rec) out.old out.new result }
 {
-    let event = rec.event;
-    let stamp = field::put_decimal(field::no_bytes(), rec.stamp);
-    let tab = field::put_word(stamp, b"\t");
-    crate::output::copy_out(put_event(tab, event), out)
+    let stamp = Spelling::new().decimal(rec.stamp).word(b"\t");
+    let line = put_event(stamp, rec.event);
+    crate::output::copy_out(line.as_slice(), out)
 }

@@ -4,8 +4,8 @@ use Rattle.line.proofs.channel_e.put_bit.Goals as goal
 
 pub returns-then-ack : goal.returns-then-ack
 unfolding spelled_bit
-returns-then-ack c = put_as spelled_bit _ c.if-ack.true c.put_word.ensures
+returns-then-ack c = put_as spelled_bit _ c.if-ack.true c.word.ensures
 
-pub returns : goal.returns
+pub returns-else-ack : goal.returns-else-ack
 unfolding spelled_bit
-returns c = put_as spelled_bit _ c.if-ack.false c.put_word-2.ensures
+returns-else-ack c = put_as spelled_bit _ c.if-ack.false c.word-else-ack.ensures

@@ -5,20 +5,20 @@ use Rattle.line.proofs.channel_f.put_flash.Goals as goal
 
 pub returns-in-Select : goal.returns-in-Select
 unfolding spelled_flash
-returns-in-Select c = put_as spelled_flash _ c.in-Select.is c.put_word.ensures
+returns-in-Select c = put_as spelled_flash _ c.in-Select.is c.word.ensures
 
 pub returns-in-Byte : goal.returns-in-Byte
 unfolding spelled_flash
-returns-in-Byte c = put_as spelled_flash _ c.in-Byte.is (put_pair _ _ _ c.put_word-s1.ensures c.put_hex-s2.ensures c.put_word-s3.ensures c.put_hex-s4.ensures c.put_word-in-Byte.ensures)
+returns-in-Byte c = put_as spelled_flash _ c.in-Byte.is (put_pair _ _ _ c.word-in-Byte.ensures c.hex.ensures c.word-in-Byte-2.ensures c.hex-in-Byte.ensures c.word-in-Byte-3.ensures)
 
 pub returns-in-Cut : goal.returns-in-Cut
 unfolding spelled_flash
-returns-in-Cut c = put_as spelled_flash _ c.in-Cut.is c.put_word-in-Cut.ensures
+returns-in-Cut c = put_as spelled_flash _ c.in-Cut.is c.word-in-Cut.ensures
 
 pub returns-in-Deselect : goal.returns-in-Deselect
 unfolding spelled_flash
-returns-in-Deselect c = put_as spelled_flash _ c.in-Deselect.is c.put_word-in-Deselect.ensures
+returns-in-Deselect c = put_as spelled_flash _ c.in-Deselect.is c.word-in-Deselect.ensures
 
 pub returns-in-End : goal.returns-in-End
 unfolding spelled_flash
-returns-in-End c = put_as spelled_flash _ c.in-End.is c.put_word-in-End.ensures
+returns-in-End c = put_as spelled_flash _ c.in-End.is c.word-in-End.ensures

@@ -4,16 +4,16 @@ use Rattle.line.proofs.channel_l.put_line.Goals as goal
 
 pub returns-in-SupplyOn : goal.returns-in-SupplyOn
 unfolding spelled_line
-returns-in-SupplyOn c = put_as spelled_line _ c.in-SupplyOn.is c.put_word.ensures
+returns-in-SupplyOn c = put_as spelled_line _ c.in-SupplyOn.is c.word.ensures
 
 pub returns-in-SupplyOff : goal.returns-in-SupplyOff
 unfolding spelled_line
-returns-in-SupplyOff c = put_as spelled_line _ c.in-SupplyOff.is c.put_word-in-SupplyOff.ensures
+returns-in-SupplyOff c = put_as spelled_line _ c.in-SupplyOff.is c.word-in-SupplyOff.ensures
 
 pub returns-in-LockOn : goal.returns-in-LockOn
 unfolding spelled_line
-returns-in-LockOn c = put_as spelled_line _ c.in-LockOn.is c.put_word-in-LockOn.ensures
+returns-in-LockOn c = put_as spelled_line _ c.in-LockOn.is c.word-in-LockOn.ensures
 
 pub returns-in-LockOff : goal.returns-in-LockOff
 unfolding spelled_line
-returns-in-LockOff c = put_as spelled_line _ c.in-LockOff.is c.put_word-in-LockOff.ensures
+returns-in-LockOff c = put_as spelled_line _ c.in-LockOff.is c.word-in-LockOff.ensures
