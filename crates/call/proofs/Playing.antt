@@ -2,8 +2,10 @@
 use mathlib.Core.Path.{◌≡◌, refl, sym, ap, ◌∙◌}
 use mathlib.Core.List.{List, [], ◌∷◌, ◌++◌, append_assoc}
 use Prim.Native.Nat.{ℕ, ◌+◌, ◌*◌, ◌≤◌, ◌<◌}
+use native.Mathlib.Numerals.{add-one}
 use native.Mathlib.Omega.{arith}
-use lib.ListN.{length, replicate, take, drop, get_or, length-append, length-replicate}
+use lib.ListN.{length, replicate, drop, drop_of_length-le, get_or, length-append, length-replicate}
+use lib.Seq.{drop-cons}
 use Rattle.meaning.specs.Meaning.{after}
 use Rattle.meaning.specs.Listing.{said}
 use Rattle.record.specs.declared.Board.{Board}
@@ -11,7 +13,6 @@ use Rattle.record.specs.declared.Record.{Record}
 use Rattle.record.specs.declared.Reply.{Reply}
 use Rattle.record.specs.declared.Match.{Match}
 use Rattle.record.specs.declared.Match.TheVariants.{Nothing, Agrees, Disagrees}
-use Rattle.law.specs.Rest.{rest_cons, rest_nil}
 use Rattle.controls.specs.declared.Controls.{Controls}
 use Rattle.image.specs.Images.{Images}
 use Rattle.machine.specs.Replies.{compared}
@@ -46,19 +47,15 @@ played_one b c c' x x' times times' old new number n count t r y p e hp ht h =
     λ i. desk_of (hp i).controls (hp i).images (f i) (g i) (e i) (k i)
 
 module _ (b : Board) where
-  -- a round of `play_all`: what is left to play gives the whole
-  pub round : (records : List Record) (many k : ℕ) (d₀ d d' : Desk) (x : Record) → many ≤ length records → k < many → d' ≡ step_desk b d (get_or records k x) →
-      run_desk b (drop k (take many records)) d ≡ run_desk b (take many records) d₀ → run_desk b (drop (k + 1) (take many records)) d' ≡ run_desk b (take many records) d₀
+  -- a record more is played: what is left to play gives the whole
+  pub round : (records : List Record) (k : ℕ) (d₀ d d' : Desk) (x : Record) → k < length records → d' ≡ step_desk b d (get_or records k x) →
+      run_desk b (drop k records) d ≡ run_desk b records d₀ → run_desk b (drop (k + 1) records) d' ≡ run_desk b records d₀
   unfolding run_desk
-  round records many k d₀ d d' x l h e q = rw e (rw (rest_cons records many k l x h) at q)
+  round records k d₀ d d' x h e q = rw (e, add-one) (rw (drop-cons records k x h) at q)
 
-  pub turned : (records : List Record) (many k : ℕ) (d₀ d : Desk) → many ≤ length records → many ≤ k → run_desk b (drop k (take many records)) d ≡ run_desk b (take many records) d₀ → d ≡ run_desk b (take many records) d₀
+  pub turned : (records : List Record) (k : ℕ) (d₀ d : Desk) → length records ≤ k → run_desk b (drop k records) d ≡ run_desk b records d₀ → d ≡ run_desk b records d₀
   unfolding run_desk
-  turned records many k d₀ d l h q = rw (rest_nil records many k l h) at q
-
-  -- a stamp of one record is one round
-  pub turned_alone : (records : List Record) (d₀ d : Desk) (x : Record) → 1 ≤ length records → d ≡ step_desk b d₀ (get_or records 0 x) → d ≡ run_desk b (take 1 records) d₀
-  turned_alone records d₀ d x l e = turned records 1 1 d₀ d l (omega arith) (round records 1 0 d₀ d₀ d x l (omega arith) e refl)
+  turned records k d₀ d h q = rw (drop_of_length-le records {i = k} h) at q
 
   -- the machine that the desk holds, where the pages were last written at y
   abbrev pub machine_on : Desk → Times → Machine

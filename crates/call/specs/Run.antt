@@ -1,5 +1,5 @@
 -- What the loop over the stamps promises: for a readable text it ends as demand 3 says. And how a verdict on a stamp ends it.
-use Rattle.std.specs.Prelude.{◌≡◌, Bool, true, false, List, ℕ, length, replicate}
+use Rattle.std.specs.Prelude.{◌≡◌, Bool, true, false, List, ℕ, length, replicate, Option, MatchOption}
 use Rattle.meaning.specs.Meaning.{Means}
 use Rattle.meaning.specs.Meaning as meaning
 use Rattle.record.specs.declared.Board.{Board}
@@ -11,6 +11,7 @@ use Rattle.image.specs.Images.{Images}
 use Rattle.times.specs.Times.{times_length}
 use Rattle.orders.specs.declared.Verdict.{Verdict}
 use Rattle.orders.specs.declared.Verdict.TheVariants as verdict
+use Rattle.orders.specs.Verdicts.{verdict_answer}
 use Rattle.line.specs.Boards.{spelled_board}
 use Rattle.machine.specs.Machine.{Machine, machine_at_start, on_machine}
 use Rattle.text.specs.Texts.{Readable}
@@ -33,3 +34,7 @@ goes_on verdict.Crowded = false
 goes_on verdict.Differ = false
 goes_on verdict.Lost = false
 goes_on verdict.Passes = true
+
+-- what a verdict ends the replay with, if it does
+abbrev pub Stops : Verdict → Option Answer → Type 0
+Stops v r = MatchOption r (goes_on v ≡ true) (λ a. (goes_on v ≡ false) × (a ≡ verdict_answer v))

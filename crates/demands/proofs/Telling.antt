@@ -1,32 +1,27 @@
 -- Two outcomes of the machine that are reached can be told apart: a state and its replies are numbers and lists of numbers, and the times of all pages are told by those of the first ones.
 use mathlib.Core.Path.{◌≡◌, refl, sym, ap, ap₂, subst, ◌∙◌}
-use mathlib.Core.Bool.{Bool, true, false, beq}
+use mathlib.Core.Bool.{Bool, true, false}
 use mathlib.Core.Logic.{◌⊎◌, inl, inr, ⊎_elim}
 use mathlib.Core.List.{List, [], ◌∷◌}
 use Prim.Native.Nat.{ℕ, zero, suc, ◌+◌, ◌≤◌, ◌<◌}
 use native.Mathlib.Omega.{arith}
 use lib.Dec.{eqb}
 use borrow.Author.Tests.{eqb-true, eqb-false, ne_eqb}
-use Rattle.law.specs.declared.Numbers.{Numbers}
 use Rattle.law.specs.Choice.{split, lt_or_le}
-use Rattle.law.specs.Deciding.{Decides, decides_true, decides_false, decides_as, eqb_decides, beq_decides}
+use Rattle.law.specs.Deciding.{Decides, decides_true, decides_false, decides_as, eqb_decides}
 use Rattle.law.specs.Words.{All}
 use Rattle.meaning.specs.Meaning.{Channel, Outcome, after, outcome}
 use Rattle.meaning.specs.Channels.{channels}
 use Rattle.meaning.proofs.Channels.{every_channel}
 use Rattle.record.specs.declared.Board.{Board}
-use Rattle.record.specs.declared.Lines.{Lines}
 use Rattle.record.specs.declared.Record.{Record}
 use Rattle.record.specs.declared.Reply.{Reply}
 use Rattle.record.specs.Replies.{reply_kind, reply_value, reply_mask}
 use Rattle.record.specs.ReplyOf.{reply_of}
 use Rattle.record.proofs.ReplyOf.{reply_back}
-use Rattle.flash.specs.declared.Flash.{Flash}
-use Rattle.flash.specs.Equal as flash-equal
-use Rattle.eeprom.specs.declared.Eeprom.{Eeprom}
-use Rattle.eeprom.specs.Same as eeprom-same
-use Rattle.eeprom.proofs.ByNumbers as eeprom-equal
 use Rattle.controls.specs.declared.Controls.{Controls}
+use Rattle.controls.specs.contracts.ControlsPartialEq.TheImpl as controls-eq
+use Rattle.controls.proofs.Compared.{controls_decides}
 use Rattle.controls.specs.Play.{moved_of}
 use Rattle.image.specs.Image.{Image}
 use Rattle.image.specs.Images.{Images}
@@ -57,9 +52,6 @@ same p f g = (p.0, decides_as p.1 f g)
 number : (a b : ℕ) → Tells (a ≡ b)
 number a b = (eqb a b, eqb_decides a b)
 
-flag : (a b : Bool) → Tells (a ≡ b)
-flag a b = (beq a b, beq_decides a b)
-
 list : {X : Type 0} → ((a b : X) → Tells (a ≡ b)) → (l k : List X) → Tells (l ≡ k)
 list tell [] [] = yes refl
 list tell [] (b ∷ k) = no (λ e. let n : ◌≡◌ {A = ℕ} 0 1 = cc in omega arith)
@@ -69,42 +61,9 @@ list tell (a ∷ l) (b ∷ k) = same (both (tell a b) (list tell l k)) (λ p. ap
 bytes : (l k : List ℕ) → Tells (l ≡ k)
 bytes = list number
 
--- ---- the chips, by the numbers that their parts are compared by
-numbers : (a b : Numbers) → Tells (a ≡ b)
-numbers a b =
-    same (both (number a.kind b.kind) (both (number a.a b.a) (both (number a.b b.b) (both (number a.c b.c) (number a.d b.d)))))
-    (λ p i. record { kind = p.0 i; a = p.1.0 i; b = p.1.1.0 i; c = p.1.1.1.0 i; d = p.1.1.1.1 i })
-    (λ e. (ap (λ (n : Numbers). n.kind) e, (ap (λ (n : Numbers). n.a) e, (ap (λ (n : Numbers). n.b) e, (ap (λ (n : Numbers). n.c) e, ap (λ (n : Numbers). n.d) e)))))
-
-flash : (a b : Flash) → Tells (a ≡ b)
-flash a b =
-    let f : Tells (a.frame ≡ b.frame) = let n = numbers (flash-equal.frame_numbers a.frame) (flash-equal.frame_numbers b.frame) in (n.0, flash-equal.frame_right _ _ n.1) in
-    let c : Tells (a.cycle ≡ b.cycle) = let n = numbers (flash-equal.cycle_numbers a.cycle) (flash-equal.cycle_numbers b.cycle) in (n.0, flash-equal.cycle_right _ _ n.1) in
-    let s : Tells (a.status ≡ b.status) = let n = numbers (flash-equal.status_numbers a.status) (flash-equal.status_numbers b.status) in (n.0, flash-equal.status_right _ _ n.1) in
-    same (both f (both c (both s (bytes a.page b.page))))
-    (λ p i. record { frame = p.0 i; cycle = p.1.0 i; status = p.1.1.0 i; page = p.1.1.1 i })
-    (λ e. (ap (λ (k : Flash). k.frame) e, (ap (λ (k : Flash). k.cycle) e, (ap (λ (k : Flash). k.status) e, ap (λ (k : Flash). k.page) e))))
-
-eeprom : (a b : Eeprom) → Tells (a ≡ b)
-eeprom a b =
-    let f : Tells (a.frame ≡ b.frame) = let n = numbers (eeprom-same.frame_numbers a.frame) (eeprom-same.frame_numbers b.frame) in (n.0, eeprom-equal.frame_right _ _ n.1) in
-    let c : Tells (a.cycle ≡ b.cycle) = let n = numbers (eeprom-same.cycle_numbers a.cycle) (eeprom-same.cycle_numbers b.cycle) in (n.0, eeprom-equal.cycle_right _ _ n.1) in
-    let s : Tells (a.counter ≡ b.counter) = let n = numbers (eeprom-same.counter_numbers a.counter) (eeprom-same.counter_numbers b.counter) in (n.0, eeprom-equal.counter_right _ _ n.1) in
-    same (both f (both c (both s (bytes a.page b.page))))
-    (λ p i. record { frame = p.0 i; cycle = p.1.0 i; counter = p.1.1.0 i; page = p.1.1.1 i })
-    (λ e. (ap (λ (k : Eeprom). k.frame) e, (ap (λ (k : Eeprom). k.cycle) e, (ap (λ (k : Eeprom). k.counter) e, ap (λ (k : Eeprom). k.page) e))))
-
 -- ---- the machine
-lines : (a b : Lines) → Tells (a ≡ b)
-lines a b =
-    same (both (flag a.supply b.supply) (flag a.lock b.lock)) (λ p i. record { supply = p.0 i; lock = p.1 i })
-    (λ e. (ap (λ (k : Lines). k.supply) e, ap (λ (k : Lines). k.lock) e))
-
 controls : (a b : Controls) → Tells (a ≡ b)
-controls a b =
-    same (both (flash a.flash b.flash) (both (eeprom a.eeprom b.eeprom) (lines a.lines b.lines)))
-    (λ p i. record { flash = p.0 i; eeprom = p.1.0 i; lines = p.1.1 i })
-    (λ e. (ap (λ (k : Controls). k.flash) e, (ap (λ (k : Controls). k.eeprom) e, ap (λ (k : Controls). k.lines) e)))
+controls a b = (controls-eq.ghosts.eq a b, controls_decides a b)
 
 image : (a b : Image) → Tells (a ≡ b)
 image a b =

@@ -2,6 +2,7 @@
 use mathlib.Core.Bool.{Bool}
 use Prim.Native.Nat.{ℕ}
 use lib.Dec.{eqb}
+use Rattle.std.specs.Prelude.{Option, None, Some}
 use Rattle.law.specs.Words.{pick}
 use Rattle.law.specs.Choice.{of_both}
 use Rattle.page.specs.Geometry.{eeprom_size}
@@ -15,8 +16,6 @@ use Rattle.image.specs.Images.{kept_bytes}
 use Rattle.flash.proofs.Within.{Fetches, fetches_step}
 use Rattle.eeprom.specs.declared.Eeprom.{Eeprom}
 use Rattle.eeprom.specs.declared.EepromStep.{EepromStep}
-use Rattle.eeprom.specs.declared.EepromCounter.{EepromCounter}
-use Rattle.eeprom.specs.declared.EepromCounter.TheVariants.{Lost, At}
 use Rattle.eeprom.specs.declared.EepromFrame.{EepromFrame}
 use Rattle.eeprom.specs.declared.EepromFrame.TheVariants.{Idle, Void, Opened, Addressed, Half, Taking, Reading}
 use Rattle.eeprom.specs.Chip.{running_of}
@@ -31,9 +30,9 @@ use Rattle.histories.specs.History.{bus_of}
 abbrev FetchesKept : EepromStep → Type 0
 FetchesKept x = Fetches eeprom_size x.reply
 
-fetches_counter : (n : EepromCounter) → CounterGood n → Fetches eeprom_size (fetch_of n)
-fetches_counter Lost h = tt
-fetches_counter (At p) h = h
+fetches_counter : (n : Option ℕ) → CounterGood n → Fetches eeprom_size (fetch_of n)
+fetches_counter None h = tt
+fetches_counter (Some p) h = h
 
 fetches_byte : (f : EepromFrame) (x : Eeprom) (b : ℕ) (bit : Bool) (wired : ℕ) → CounterGood x.counter → FetchesKept (byte_in f x b bit wired)
 fetches_byte Idle x b bit wired h = tt

@@ -7,6 +7,8 @@ use native.Mathlib.Omega.{arith}
 use borrow.Author.Tests.{eqb-true, eqb-false}
 use lib.Dec.{eqb}
 use lib.ListN.{get_or}
+use Rattle.std.specs.Prelude.{Option}
+use Rattle.std.specs.declared.option.Option.TheVariants as option
 use Rattle.law.specs.Words.{pick}
 use Rattle.law.specs.Choice.{split}
 use Rattle.record.specs.declared.Board.{Board}
@@ -27,11 +29,9 @@ use Rattle.times.specs.declared.Pages.{Pages}
 use Rattle.times.specs.declared.Pages.TheVariants.{None, One, All}
 use Rattle.times.specs.Times.{reaches, on_pages}
 use Rattle.flash.specs.declared.Flash.{Flash}
-use Rattle.flash.specs.declared.FlashStatus.{FlashStatus}
 use Rattle.flash.specs.declared.FlashCycle.{FlashCycle}
-use Rattle.flash.specs.declared.FlashCycle.TheVariants as flash-cycle
-use Rattle.eeprom.specs.declared.EepromCycle.{EepromCycle}
-use Rattle.eeprom.specs.declared.EepromCycle.TheVariants as eeprom-cycle
+use Rattle.flash.specs.declared.FlashCycle.TheVariants.{Program, SectorErase, ChipErase, WriteStatus}
+use Rattle.eeprom.specs.declared.Sent.{Sent}
 use Rattle.controls.specs.declared.Controls.{Controls}
 use Rattle.controls.specs.Play.{moved_of}
 use Rattle.machine.specs.declared.effects.Stroke.{Stroke}
@@ -85,35 +85,35 @@ module _ (i : Image) (spanned : spans flash_sector i ≡ true) (k : ℕ) (l : k 
   cut_erase_turns = record { is = cut_erase_all_at i flash_sector spanned k l; byte = tt }
 
   -- what a stroke of this cycle makes of the place
-  abbrev Struck : Stroke → ℕ → FlashCycle → List ℕ → FlashStatus → Type 0
+  abbrev Struck : Stroke → ℕ → Option FlashCycle → List ℕ → Option ℕ → Type 0
   Struck s watched cycle page status =
       OnTouched i k flash_page (program_by s page) (erase_by s) (flash_fate s cycle (get_or page (k % flash_page) 0)) (stroke_pages s (flash_pages watched cycle status))
 
-  whole_turns : (watched : ℕ) (cycle : FlashCycle) (page : List ℕ) (status : FlashStatus) → Struck Whole watched cycle page status
+  whole_turns : (watched : ℕ) (cycle : Option FlashCycle) (page : List ℕ) (status : Option ℕ) → Struck Whole watched cycle page status
   unfolding program_page
-  whole_turns watched flash-cycle.None page status = unchanged (cell_at i k)
-  whole_turns watched (flash-cycle.Program n) page status =
+  whole_turns watched option.None page status = unchanged (cell_at i k)
+  whole_turns watched (option.Some (Program n)) page status =
       let d = get_or page (k % flash_page) 0 in
       tested i k flash_page (program_by Whole page) (erase_by Whole) (programs d) (eqb (sector_of_page n) watched) (One (in_sector n))
       (allowed (eqb (k / flash_page) (in_sector n)) (programs d) (cell_at i k) (cell_at (program_page (in_sector n) page i) k) tt (flash_place (in_sector n) (λ q c. programmed_cell c (get_or page q 0))))
-  whole_turns watched (flash-cycle.SectorErase sector) page status =
+  whole_turns watched (option.Some (SectorErase sector)) page status =
       tested i k flash_page (program_by Whole page) (erase_by Whole) erases (eqb sector watched) All erase_turns
-  whole_turns watched flash-cycle.ChipErase page status =
+  whole_turns watched (option.Some ChipErase) page status =
       tested i k flash_page (program_by Whole page) (erase_by Whole) erases (reached status watched) All erase_turns
-  whole_turns watched (flash-cycle.WriteStatus bits) page status = unchanged (cell_at i k)
+  whole_turns watched (option.Some (WriteStatus bits)) page status = unchanged (cell_at i k)
 
-  cut_turns : (watched : ℕ) (cycle : FlashCycle) (page : List ℕ) (status : FlashStatus) → BytePage page → Struck Cut watched cycle page status
+  cut_turns : (watched : ℕ) (cycle : Option FlashCycle) (page : List ℕ) (status : Option ℕ) → BytePage page → Struck Cut watched cycle page status
   unfolding cut_program_page
-  cut_turns watched flash-cycle.None page status h = unchanged (cell_at i k)
-  cut_turns watched (flash-cycle.Program n) page status h =
+  cut_turns watched option.None page status h = unchanged (cell_at i k)
+  cut_turns watched (option.Some (Program n)) page status h =
       let d = get_or page (k % flash_page) 0 in
       tested i k flash_page (program_by Cut page) (erase_by Cut) (old_or_new d) (eqb (sector_of_page n) watched) (One (in_sector n))
       (allowed (eqb (k / flash_page) (in_sector n)) (old_or_new d) (cell_at i k) (cell_at (cut_program_page (in_sector n) page i) k) (byte_at page h (k % flash_page)) (flash_place (in_sector n) (λ q c. cut_cell c (get_or page q 0))))
-  cut_turns watched (flash-cycle.SectorErase sector) page status h =
+  cut_turns watched (option.Some (SectorErase sector)) page status h =
       tested i k flash_page (program_by Cut page) (erase_by Cut) any_value (eqb sector watched) All cut_erase_turns
-  cut_turns watched flash-cycle.ChipErase page status h =
+  cut_turns watched (option.Some ChipErase) page status h =
       tested i k flash_page (program_by Cut page) (erase_by Cut) any_value (reached status watched) All cut_erase_turns
-  cut_turns watched (flash-cycle.WriteStatus bits) page status h = unchanged (cell_at i k)
+  cut_turns watched (option.Some (WriteStatus bits)) page status h = unchanged (cell_at i k)
 
   flash_turns : (s : Stroke) (watched : ℕ) (f : Flash) → BytePage f.page → Struck s watched f.cycle f.page f.status
   flash_turns Nothing watched f h = unchanged (cell_at i k)
@@ -125,19 +125,19 @@ module _ (i : Image) (spanned : spans eeprom_size i ≡ true) (k : ℕ) (l : k <
   eeprom_place : (number : ℕ) (rule : ℕ → Cell → Cell) → cell_at (on_page eeprom_page number rule i) k ≡ in_page eeprom_page number rule k (cell_at i k)
   eeprom_place number rule = page_place i eeprom_size spanned k l eeprom_page number rule (λ e. omega arith)
 
-  abbrev Stored : Stroke → EepromCycle → List ℕ → Type 0
+  abbrev Stored : Stroke → Option Sent → List ℕ → Type 0
   Stored s cycle page = OnTouched i k eeprom_page (store_by s (sent_in cycle) page) (λ z. z) (eeprom_fate s cycle page (k % eeprom_page)) (stroke_pages s (eeprom_pages cycle))
 
-  eeprom_turns : (s : Stroke) (cycle : EepromCycle) (page : List ℕ) → Stored s cycle page
+  eeprom_turns : (s : Stroke) (cycle : Option Sent) (page : List ℕ) → Stored s cycle page
   unfolding store_page cut_store_page
   eeprom_turns Nothing cycle page = unchanged (cell_at i k)
-  eeprom_turns Whole eeprom-cycle.None page = unchanged (cell_at i k)
-  eeprom_turns Whole (eeprom-cycle.Write s) page =
+  eeprom_turns Whole option.None page = unchanged (cell_at i k)
+  eeprom_turns Whole (option.Some s) page =
       allowed_twice (eqb (k / eeprom_page) s.page) (sent_place eeprom_page s.first s.count (k % eeprom_page)) (stores (get_or page (k % eeprom_page) 0)) (cell_at i k)
       (cell_at (store_page s.page s.first s.count page i) k) tt
       (eeprom_place s.page (λ q c. pick (sent_place eeprom_page s.first s.count q) (stored_cell (get_or page q 0)) c))
-  eeprom_turns Cut eeprom-cycle.None page = unchanged (cell_at i k)
-  eeprom_turns Cut (eeprom-cycle.Write s) page =
+  eeprom_turns Cut option.None page = unchanged (cell_at i k)
+  eeprom_turns Cut (option.Some s) page =
       allowed (eqb (k / eeprom_page) s.page) any_value (cell_at i k) (cell_at (cut_store_page s.page i) k) tt (eeprom_place s.page (λ q c. doubtful_cell))
 
 -- ---- a record, and each chip

@@ -1,5 +1,5 @@
 -- Believed: What a history of the chips is that fits the records of a trace (document 02, request 8/12). In a history every bit has a value: what the trace leaves open, it chooses. Only its start asks for a mask.
-use Rattle.std.specs.Prelude.{◌≡◌, Bool, true, false, ◌&&◌, List, ℕ, suc, ◌/◌, ◌%◌, ◌^◌, ◌<◌, eqb, get_or}
+use Rattle.std.specs.Prelude.{◌≡◌, Bool, true, false, ◌&&◌, List, ℕ, suc, ◌/◌, ◌%◌, ◌^◌, ◌<◌, eqb, get_or, Option, None, Some}
 use Rattle.law.specs.Words.{pick}
 use Rattle.meaning.specs.Meaning.{Rules, Allowed, after, outcome}
 use Rattle.meaning.specs.Listing.{shown_at}
@@ -16,9 +16,8 @@ use Rattle.page.specs.Rolling.{sent_place}
 use Rattle.image.specs.Image.{cell_at}
 use Rattle.image.specs.Images.{Images, per_chip, image_at, kept_bytes, page_size}
 use Rattle.flash.specs.declared.FlashCycle.{FlashCycle}
-use Rattle.flash.specs.declared.FlashCycle.TheVariants as flash-cycle
-use Rattle.eeprom.specs.declared.EepromCycle.{EepromCycle}
-use Rattle.eeprom.specs.declared.EepromCycle.TheVariants as eeprom-cycle
+use Rattle.flash.specs.declared.FlashCycle.TheVariants.{Program, SectorErase, ChipErase, WriteStatus}
+use Rattle.eeprom.specs.declared.Sent.{Sent}
 use Rattle.controls.specs.declared.Controls.{Controls}
 use Rattle.controls.specs.Play.{start_of, moved_of, lost_of}
 use Rattle.machine.specs.declared.effects.Stroke.{Stroke}
@@ -51,26 +50,26 @@ becomes (old_or_new d) j chosen old = pick chosen old (old && bit_of d j)
 becomes any_value j chosen old = chosen
 
 -- a byte on a page that the flash's cycle touches; d is the data's byte for its place, ff where none was sent
-abbrev pub flash_fate : Stroke → FlashCycle → ℕ → Fate
+abbrev pub flash_fate : Stroke → Option FlashCycle → ℕ → Fate
 flash_fate Nothing cycle d = stays
-flash_fate Whole flash-cycle.None d = stays
-flash_fate Whole (flash-cycle.Program n) d = programs d
-flash_fate Whole (flash-cycle.SectorErase sector) d = erases
-flash_fate Whole flash-cycle.ChipErase d = erases
-flash_fate Whole (flash-cycle.WriteStatus bits) d = stays
-flash_fate Cut flash-cycle.None d = stays
-flash_fate Cut (flash-cycle.Program n) d = old_or_new d
-flash_fate Cut (flash-cycle.SectorErase sector) d = any_value
-flash_fate Cut flash-cycle.ChipErase d = any_value
-flash_fate Cut (flash-cycle.WriteStatus bits) d = stays
+flash_fate Whole None d = stays
+flash_fate Whole (Some (Program n)) d = programs d
+flash_fate Whole (Some (SectorErase sector)) d = erases
+flash_fate Whole (Some ChipErase) d = erases
+flash_fate Whole (Some (WriteStatus bits)) d = stays
+flash_fate Cut None d = stays
+flash_fate Cut (Some (Program n)) d = old_or_new d
+flash_fate Cut (Some (SectorErase sector)) d = any_value
+flash_fate Cut (Some ChipErase) d = any_value
+flash_fate Cut (Some (WriteStatus bits)) d = stays
 
 -- place q of the page that the EEPROM's cycle touches: at `end` the bytes sent are put in, at `off` the whole page is open
-abbrev pub eeprom_fate : Stroke → EepromCycle → List ℕ → ℕ → Fate
+abbrev pub eeprom_fate : Stroke → Option Sent → List ℕ → ℕ → Fate
 eeprom_fate Nothing cycle page q = stays
-eeprom_fate Whole eeprom-cycle.None page q = stays
-eeprom_fate Whole (eeprom-cycle.Write s) page q = pick (sent_place eeprom_page s.first s.count q) (stores (get_or page q 0)) stays
-eeprom_fate Cut eeprom-cycle.None page q = stays
-eeprom_fate Cut (eeprom-cycle.Write s) page q = any_value
+eeprom_fate Whole None page q = stays
+eeprom_fate Whole (Some s) page q = pick (sent_place eeprom_page s.first s.count q) (stores (get_or page q 0)) stays
+eeprom_fate Cut None page q = stays
+eeprom_fate Cut (Some s) page q = any_value
 
 -- place k of a chip at the record r, which the controls c meet: on a page on which no cycle ends or is cut it stays
 unfoldable pub fate_at : Board → Controls → Record → Chip → ℕ → Fate

@@ -5,6 +5,7 @@ use mathlib.Core.List.{List}
 use Prim.Native.Nat.{ℕ}
 use lib.Dec.{ltb}
 use lib.ListN.{length, replicate}
+use Rattle.std.specs.Prelude.{Ok, Err}
 use Rattle.law.specs.Choice.{true_not_false}
 use Rattle.record.specs.declared.Board.{Board}
 use Rattle.record.specs.declared.Answer.{Answer}
@@ -12,8 +13,8 @@ use Rattle.record.specs.Answers.{answer_number}
 use Rattle.field.specs.declared.Cursor.{Cursor}
 use Rattle.image.specs.Images.{Images}
 use Rattle.line.specs.Boards.{spelled_board}
-use Rattle.text.specs.declared.checking.Checked.{Checked}
-use Rattle.text.specs.Texts.{text_limit, Checks}
+use Rattle.text.specs.declared.checking.Refusal.{Refusal}
+use Rattle.text.specs.Texts.{text_limit, Checked, Checks}
 use Rattle.record.specs.Lengths.{replies_length, result_length}
 use Rattle.times.specs.Times.{times_length}
 use Rattle.buffers.specs.Buffers.{Buffers, fit, result_bytes, result_after}
@@ -65,41 +66,33 @@ module _ (text : List ℕ) (x : Buffers) where
     module _ (short : ltb text_limit (length text) ≡ false) (r : Checked) (checks : Checks text r) where
       -- what the check answered
       abbrev IsReadable : Checked → Type 0
-      IsReadable (Checked.Readable b c) = Unit {0}
-      IsReadable (Checked.Refused a n f) = ⊥
+      IsReadable (Ok r) = Unit {0}
+      IsReadable (Err e) = ⊥
 
       abbrev board_of : Board → Checked → Board
-      board_of d (Checked.Readable b c) = b
-      board_of d (Checked.Refused a n f) = d
+      board_of d (Ok r) = r.0
+      board_of d (Err e) = d
 
       abbrev place_of : Checked → ℕ
-      place_of (Checked.Readable b c) = c.at
-      place_of (Checked.Refused a n f) = 0
+      place_of (Ok r) = r.1.at
+      place_of (Err e) = 0
 
-      abbrev answer_of : Answer → Checked → Answer
-      answer_of d (Checked.Readable b c) = d
-      answer_of d (Checked.Refused a n f) = a
+      abbrev refusal_of : Refusal → Checked → Refusal
+      refusal_of d (Ok r) = d
+      refusal_of d (Err e) = e
 
-      abbrev line_of : Checked → ℕ
-      line_of (Checked.Readable b c) = 0
-      line_of (Checked.Refused a n f) = n
-
-      abbrev field_of : Checked → ℕ
-      field_of (Checked.Readable b c) = 0
-      field_of (Checked.Refused a n f) = f
-
-      pub replays_bad : (a : Answer) (line field : ℕ) → r ≡ Checked.Refused a line field → (n : ℕ) (res : List ℕ) → n ≡ answer_number a → res ≡ result_after (answer_number a) line 0 field x.result → Replays text x (refusal n x res)
-      replays_bad a line field is n res h w = record {
-        unfit = λ k. clash fits k;
-        long = λ k l. clash l short;
-        bad = λ k l c m f q.
+      pub replays_bad : (k : Refusal) → r ≡ Err k → (n : ℕ) (res : List ℕ) → n ≡ answer_number k.answer → res ≡ result_after (answer_number k.answer) k.line 0 k.field x.result → Replays text x (refusal n x res)
+      replays_bad k is n res h w = record {
+        unfit = λ u. clash fits u;
+        long = λ u l. clash l short;
+        bad = λ u l c m f q.
             let e = sym is ∙ checks.refused c m f q in
-            refusal_is a line field n x res h w ∙ ap (λ (y : Checked). refused_as (answer_of a y) (line_of y) (field_of y) x) e;
-        played = λ k l b rs q. absurd (subst IsReadable (sym (checks.readable b rs q) ∙ is) tt);
-        read = λ k l. checks.only;
+            refusal_is k.answer k.line k.field n x res h w ∙ ap (λ (y : Checked). refused_as (refusal_of k y).answer (refusal_of k y).line (refusal_of k y).field x) e;
+        played = λ u l b rs q. absurd (subst IsReadable (sym (checks.readable b rs q) ∙ is) tt);
+        read = λ u l. checks.only;
       }
 
-      pub replays_played : (b : Board) (c : Cursor) → r ≡ Checked.Readable b c → (e : Ended) → Runs text c.at b x.images (replicate times_length 0) (replicate replies_length 0) e → Replays text x e
+      pub replays_played : (b : Board) (c : Cursor) → r ≡ Ok (b, c) → (e : Ended) → Runs text c.at b x.images (replicate times_length 0) (replicate replies_length 0) e → Replays text x e
       replays_played b c is e runs = record {
         unfit = λ k. clash fits k;
         long = λ k l. clash l short;
