@@ -3,6 +3,7 @@ use mathlib.Core.Path.{◌≡◌, refl, sym, ap, ap₂, ◌∙◌}
 use mathlib.Core.List.{List, [], ◌∷◌}
 use Prim.Native.Nat.{ℕ, ◌+◌}
 use lib.ListN.{length, length-append}
+use Rattle.std.specs.Prelude.{Option, Some, None}
 use Rattle.law.specs.Words.{keep, filter}
 use Rattle.meaning.specs.Meaning.{F, E, same, Allowed}
 use Rattle.meaning.proofs.Allowing.{allowed_all}
@@ -14,32 +15,29 @@ use Rattle.line.specs.Records.{spelled, RecordOk}
 use Rattle.line.specs.Boards.{spelled_board}
 use Rattle.machine.specs.Machine.{on_machine, channel_of}
 use Rattle.text.specs.declared.buses.Bus.{Bus}
-use Rattle.text.specs.declared.buses.Moved.{Moved}
-use Rattle.text.specs.declared.buses.Moved.TheVariants.{To, Impossible}
 use Rattle.text.specs.declared.buses.Buses.{Buses}
-use Rattle.text.specs.declared.buses.Moves.{Moves}
 use Rattle.text.specs.Buses.{flash_bus, eeprom_bus, with_flash, with_eeprom, after, buses_after}
 use Rattle.text.specs.Texts.{spelled_all, spelled_trace, Readable}
 use Rattle.meaning.proofs.Sums.{total, total_same}
 
 -- ---- the buses: how they stand after the records is told by the records of F and by those of E
-abbrev buses : Bus → Bus → Moves
-buses x y = Moves.To (record { flash = x; eeprom = y })
+abbrev buses : Bus → Bus → Option Buses
+buses x y = Some (record { flash = x; eeprom = y })
 
 -- the flash's bus by the first, the EEPROM's by the second
-abbrev beside : Buses → Moves → Moves
-beside a (Moves.To c) = buses a.flash c.eeprom
-beside a Moves.Impossible = Moves.Impossible
+abbrev beside : Buses → Option Buses → Option Buses
+beside a (Some c) = buses a.flash c.eeprom
+beside a None = None
 
-abbrev joined : Moves → Moves → Moves
-joined (Moves.To a) c = beside a c
-joined Moves.Impossible c = Moves.Impossible
+abbrev joined : Option Buses → Option Buses → Option Buses
+joined (Some a) c = beside a c
+joined None c = None
 
-joined_none : (m : Moves) → joined m Moves.Impossible ≡ Moves.Impossible
-joined_none (Moves.To a) = refl
-joined_none Moves.Impossible = refl
+joined_none : (m : Option Buses) → joined m None ≡ None
+joined_none (Some a) = refl
+joined_none None = refl
 
-stays : (rs : List Record) → after Moves.Impossible rs ≡ Moves.Impossible
+stays : (rs : List Record) → after None rs ≡ None
 unfolding after
 stays [] = refl
 stays (r ∷ rs) = stays rs
@@ -54,15 +52,15 @@ eeprom_part rs = filter (λ (r : Record). same E (channel_of r.event)) rs
 abbrev Told : List Record → Type 0
 Told rs = (x y x₁ y₁ : Bus) → after (buses x y) rs ≡ joined (after (buses x y₁) (flash_part rs)) (after (buses x₁ y) (eeprom_part rs))
 
-flash_moves : (rs : List Record) → Told rs → (k : Moved) (x y x₁ y₁ : Bus) →
+flash_moves : (rs : List Record) → Told rs → (k : Option Bus) (x y x₁ y₁ : Bus) →
     after (with_flash (record { flash = x; eeprom = y }) k) rs ≡ joined (after (with_flash (record { flash = x; eeprom = y₁ }) k) (flash_part rs)) (after (buses x₁ y) (eeprom_part rs))
-flash_moves rs h (To k) x y x₁ y₁ = h k y x₁ y₁
-flash_moves rs h Impossible x y x₁ y₁ = stays rs ∙ sym (ap (λ (m : Moves). joined m (after (buses x₁ y) (eeprom_part rs))) (stays (flash_part rs)))
+flash_moves rs h (Some k) x y x₁ y₁ = h k y x₁ y₁
+flash_moves rs h None x y x₁ y₁ = stays rs ∙ sym (ap (λ (m : Option Buses). joined m (after (buses x₁ y) (eeprom_part rs))) (stays (flash_part rs)))
 
-eeprom_moves : (rs : List Record) → Told rs → (k : Moved) (x y x₁ y₁ : Bus) →
+eeprom_moves : (rs : List Record) → Told rs → (k : Option Bus) (x y x₁ y₁ : Bus) →
     after (with_eeprom (record { flash = x; eeprom = y }) k) rs ≡ joined (after (buses x y₁) (flash_part rs)) (after (with_eeprom (record { flash = x₁; eeprom = y }) k) (eeprom_part rs))
-eeprom_moves rs h (To k) x y x₁ y₁ = h x k x₁ y₁
-eeprom_moves rs h Impossible x y x₁ y₁ =
+eeprom_moves rs h (Some k) x y x₁ y₁ = h x k x₁ y₁
+eeprom_moves rs h None x y x₁ y₁ =
     stays rs ∙ sym (ap (joined (after (buses x y₁) (flash_part rs))) (stays (eeprom_part rs)) ∙ joined_none (after (buses x y₁) (flash_part rs)))
 
 told_event : (v : Event) (stamp : ℕ) (rs : List Record) → Told rs → Told (record { stamp = stamp; event = v } ∷ rs)
