@@ -1,8 +1,12 @@
 -- The judgement of two texts is one: any two answers that the promise of `judge` admits are equal.
-use mathlib.Core.Path.{◌≡◌, ap, subst}
+use mathlib.Core.Path.{◌≡◌, refl, sym, ap, subst, ◌∙◌}
 use mathlib.Core.List.{List, [], ◌∷◌}
 use Prim.Native.Nat.{ℕ}
+use lib.Dec.{eqb}
 use lib.ListN.{length}
+use Rattle.law.specs.Words.{pick}
+use Rattle.record.specs.declared.Answer.TheVariants.{Settled, BadBuffers, TooLong, BadLine, BackInTime, Impossible, Crowded, OrdersDiffer, StatusLost}
+use Rattle.record.specs.declared.LevelsAnswer.TheVariants.{BadLevel, Together, TooShort}
 use Rattle.record.specs.declared.Record.{Record}
 use Rattle.field.proofs.Answers.{zero_one}
 use Rattle.line.specs.Boards.{spelled_board}
@@ -14,13 +18,43 @@ use Rattle.capture.specs.Captures.{Captures}
 use Rattle.capture.specs.Merge.{Judgement, refused, merged, both}
 use Rattle.capture.proofs.OneCapture.{capture_one}
 use Rattle.capture.proofs.OneJudgement.{merged_some, one_judgement}
-use Rattle.judge.specs.declared.Judged.{Judged}
-use Rattle.judge.specs.Judging.{Judging, is_refused, is_both}
+use Rattle.judge.specs.declared.JudgeAnswer.{JudgeAnswer}
+use Rattle.judge.specs.declared.JudgeAnswer.TheVariants.{Text, Levels}
+use Rattle.judge.specs.Judging.{judge_number, Judged, judged_refused, judged_both, Judging, is_refused, is_both}
+
+-- an answer's number tells it
+abbrev answer_of : ℕ → JudgeAnswer
+answer_of n =
+    pick (eqb n 0) (Text Settled)
+    (pick (eqb n 1) (Text BadBuffers)
+    (pick (eqb n 2) (Text TooLong)
+    (pick (eqb n 3) (Text BadLine)
+    (pick (eqb n 4) (Text BackInTime)
+    (pick (eqb n 5) (Text Impossible)
+    (pick (eqb n 6) (Text Crowded)
+    (pick (eqb n 7) (Text OrdersDiffer)
+    (pick (eqb n 8) (Text StatusLost)
+    (pick (eqb n 10) (Levels TooShort)
+    (pick (eqb n 12) (Levels BadLevel) (Levels Together)))))))))))
+
+number_tells : (a : JudgeAnswer) → answer_of (judge_number a) ≡ a
+number_tells (Text Settled) = refl
+number_tells (Text BadBuffers) = refl
+number_tells (Text TooLong) = refl
+number_tells (Text BadLine) = refl
+number_tells (Text BackInTime) = refl
+number_tells (Text Impossible) = refl
+number_tells (Text Crowded) = refl
+number_tells (Text OrdersDiffer) = refl
+number_tells (Text StatusLost) = refl
+number_tells (Levels BadLevel) = refl
+number_tells (Levels Together) = refl
+number_tells (Levels TooShort) = refl
 
 -- the code's word for a judgement that refuses
 abbrev told : Judgement → Judged
-told (refused n k f) = Judged.Refused n k f
-told (merged b m) = Judged.Refused 0 0 0
+told (refused n k f) = judged_refused (answer_of n) k f
+told (merged b m) = judged_refused (Text Settled) 0 0
 
 abbrev accepts : Judgement → ℕ
 accepts (refused n k f) = 0
@@ -34,7 +68,8 @@ head_of {a} e = ap (λ (l : List Level). first a l) e
     first d (x ∷ l) = x
 
 pub judge_determined : (levels trace : List ℕ) (r r' : Judged) → Judging levels trace r → Judging levels trace r' → r ≡ r'
-judge_determined levels trace r r' (is_refused n k f h) (is_refused n' k' f' h') = ap told (one_judgement h h')
+judge_determined levels trace r r' (is_refused n k f h) (is_refused n' k' f' h') =
+    ap (λ (x : JudgeAnswer). judged_refused x k f) (sym (number_tells n)) ∙ ap told (one_judgement h h') ∙ ap (λ (x : JudgeAnswer). judged_refused x k' f') (number_tells n')
 judge_determined levels trace r r' (is_refused n k f h) (is_both b rs a ls t q s c) =
     let m = merged_some (a ∷ ls) rs in
     absurd (zero_one (ap accepts (one_judgement h (both b rs (a ∷ ls) m.0 t q s c m.1))))
@@ -44,4 +79,4 @@ judge_determined levels trace r r' (is_both b rs a ls t q s c) (is_refused n k f
 judge_determined levels trace r r' (is_both b rs a ls t q s c) (is_both b' rs' a' ls' t' q' s' c') =
     let e = readable_one q q' in
     let g = head_of (capture_one (subst (λ (x : List Record). Captures (taken_of x) levels (a ∷ ls)) e.1 c) c') in
-    λ i. Judged.Both (e.0 i) (length (spelled_board (e.0 i))) (g i) (length (spelled_level (g i)))
+    λ i. judged_both (e.0 i) (length (spelled_board (e.0 i))) (g i) (length (spelled_level (g i)))

@@ -7,6 +7,7 @@ use mathlib.Core.List.{List, [], ◌∷◌}
 use lib.Dec.{eqb, leb}
 use lib.ListN.{length}
 use borrow.Author.Tests.{eqb-false, ne_eqb, leb-true, leb-false}
+use Rattle.std.specs.Prelude.{Some, None}
 use Rattle.law.specs.Choice.{split, both}
 use Rattle.law.specs.Words.{pick, filter, keep, All, Rising}
 use Rattle.law.specs.Lists.{all_map, all_filter}
@@ -72,11 +73,11 @@ module _ {trace : List ℕ} {from t : ℕ} where
   reach_start = record { still = λ ts s h a. later h a }
 
   module _ {at : ℕ} (s : Still trace from t at) where
-    pub reach_none : at < length trace → ((r : Record) → RecordOk r → Stands trace at (spelled r) → ⊥) → Reaches trace from 0 t (record { at = at; hit = false; free = 0 })
+    pub reach_none : at < length trace → ((r : Record) → RecordOk r → Stands trace at (spelled r) → ⊥) → Reaches trace from 0 t (record { at = at; stamp = None })
     unfolding records
     reach_none h n = record { reaches = λ ts u le a. let z = s.still ts u le a in absurd (not_none z.rest z.from h n) }
 
-    pub reach_end : length trace ≤ at → Reaches trace from 0 t (record { at = at; hit = false; free = 0 })
+    pub reach_end : length trace ≤ at → Reaches trace from 0 t (record { at = at; stamp = None })
     unfolding filter stamped
     reach_end h = record {
       reaches = λ ts u le a.
@@ -85,7 +86,7 @@ module _ {trace : List ℕ} {from t : ℕ} where
     }
 
     module _ {r : Record} {p : ℕ} (g : Got spelled RecordOk trace at r p) where
-      pub reach_found : reached_by r t ≡ true → Reaches trace from 0 t (record { at = at; hit = eqb r.stamp t; free = r.stamp })
+      pub reach_found : reached_by r t ≡ true → Reaches trace from 0 t (record { at = at; stamp = Some r.stamp })
       unfolding Rising records
       reach_found h = record {
         reaches = λ ts u le a.
@@ -121,11 +122,8 @@ module _ {trace : List ℕ} {from t : ℕ} where
       }
 
 -- ---- from where an earlier search stopped
-module _ {trace : List ℕ} {at free t : ℕ} where
-  pub reach_below : t < free → Reaches trace at free t (record { at = at; hit = false; free = free })
-  reach_below h = record { reaches = λ ts s le a. (sym (a.same t le ∙ a.none t h), later le a) }
-
-  pub reach_further : {r : Reach} → Reaches trace at 0 t r → Reaches trace at free t r
+module _ {trace : List ℕ} {t : ℕ} {r : Reach} where
+  pub reach_further : {at free : ℕ} → Reaches trace at 0 t r → Reaches trace at free t r
   reach_further q = record {
     reaches = λ ts s le a.
         q.reaches ts s le (record { rest = a.rest; from = a.from; rising = a.rising; same = a.same; none = λ v lt. absurd (omega arith) });
