@@ -3,7 +3,6 @@ pub mod Answers
 pub mod Lengths
 pub mod Replies
 pub mod ReplyOf
-pub mod Skeletons
 pub mod LineRules
 pub mod Status
 pub mod Told

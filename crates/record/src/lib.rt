@@ -4,12 +4,9 @@
 ghost use Rattle.std.specs.Prelude.{◌≡◌};
 ghost use Rattle.law.specs.Deciding.{Decides};
 ghost use Rattle.record.specs.Answers.{answer_number, plan_answer_number, levels_answer_number};
-ghost use Rattle.record.specs.Replies.{reply_kind, reply_value, reply_mask, match_number, reply_bytes};
+ghost use Rattle.record.specs.Replies.{match_number, reply_bytes};
 ghost use Rattle.record.specs.Status.{StatusOk};
-ghost use Rattle.record.specs.Skeletons.{skeleton_numbers};
 ghost use Rattle.record.specs.LineRules.{lines_after, lines_at_start, goes_off, lock_comes_on};
-
-use law::Numbers;
 
 // The chips whose bytes are kept.
 #[derive(Clone, Copy, Debug, PartialEq, Eq)]
@@ -188,23 +185,6 @@ pub enum Answer {
 }
 
 // The paper's number of an answer.
-pub fn answer_number(a: Answer) -> u32
-    ensures { result ≡ answer_number a }
-{
-    match a {
-        Answer::Settled => 0,
-        Answer::BadBuffers => 1,
-        Answer::TooLong => 2,
-        Answer::BadLine => 3,
-        Answer::BackInTime => 4,
-        Answer::Impossible => 5,
-        Answer::Crowded => 6,
-        Answer::OrdersDiffer => 7,
-        Answer::StatusLost => 8,
-    }
-}
-
-// The paper's number of an answer.
 impl From<Answer> for u32 {
     ghost from_gives = { λ a n. n ≡ answer_number a };
 
@@ -233,18 +213,6 @@ pub enum PlanAnswer {
 }
 
 // The paper's number of such an answer.
-pub fn plan_answer_number(a: PlanAnswer) -> u32
-    ensures { result ≡ plan_answer_number a }
-{
-    match a {
-        PlanAnswer::Planned => 0,
-        PlanAnswer::Unfit => 14,
-        PlanAnswer::Locked => 15,
-        PlanAnswer::NoRoom => 16,
-    }
-}
-
-// The paper's number of such an answer.
 impl From<PlanAnswer> for u32 {
     ghost from_gives = { λ a n. n ≡ plan_answer_number a };
 
@@ -264,17 +232,6 @@ pub enum LevelsAnswer {
     BadLevel,
     Together,
     TooShort,
-}
-
-// The paper's number of such an answer.
-pub fn levels_answer_number(a: LevelsAnswer) -> u32
-    ensures { result ≡ levels_answer_number a }
-{
-    match a {
-        LevelsAnswer::BadLevel => 12,
-        LevelsAnswer::Together => 13,
-        LevelsAnswer::TooShort => 10,
-    }
 }
 
 // The paper's number of such an answer.
@@ -322,78 +279,25 @@ impl Reply {
     }
 }
 
-// The first of a reply's four bytes.
-pub fn reply_kind(r: Reply) -> u8
-    ensures { result ≡ reply_kind r }
+// The paper's number of an answer: goes once nobody calls it.
+pub fn answer_number(a: Answer) -> u32
+    ensures { result ≡ answer_number a }
 {
-    match r {
-        Reply::NotPlayed => 0,
-        Reply::Silent => 1,
-        Reply::Byte(_, _) => 2,
-        Reply::Ack => 3,
-        Reply::NoAck => 4,
-        Reply::Starts => 5,
-        Reply::Ends => 6,
-        Reply::NoCycle => 7,
-    }
+    u32::from(a)
 }
 
-// The second: 0 for other kinds than 2.
-pub fn reply_value(r: Reply) -> u8
-    ensures { result ≡ reply_value r }
+// The same of a plan's.
+pub fn plan_answer_number(a: PlanAnswer) -> u32
+    ensures { result ≡ plan_answer_number a }
 {
-    match r {
-        Reply::NotPlayed => 0,
-        Reply::Silent => 0,
-        Reply::Byte(value, _) => value,
-        Reply::Ack => 0,
-        Reply::NoAck => 0,
-        Reply::Starts => 0,
-        Reply::Ends => 0,
-        Reply::NoCycle => 0,
-    }
+    u32::from(a)
 }
 
-// The third: 0 for other kinds than 2.
-pub fn reply_mask(r: Reply) -> u8
-    ensures { result ≡ reply_mask r }
+// The same of levels'.
+pub fn levels_answer_number(a: LevelsAnswer) -> u32
+    ensures { result ≡ levels_answer_number a }
 {
-    match r {
-        Reply::NotPlayed => 0,
-        Reply::Silent => 0,
-        Reply::Byte(_, mask) => mask,
-        Reply::Ack => 0,
-        Reply::NoAck => 0,
-        Reply::Starts => 0,
-        Reply::Ends => 0,
-        Reply::NoCycle => 0,
-    }
-}
-
-// The fourth.
-pub fn match_number(m: Match) -> u8
-    ensures { result ≡ match_number m }
-{
-    match m {
-        Match::Nothing => 0,
-        Match::Agrees => 1,
-        Match::Disagrees => 2,
-    }
-}
-
-fn skeleton_numbers(s: Skeleton) -> Numbers
-    ensures { result ≡ skeleton_numbers s }
-{
-    match s {
-        Skeleton::Silent => law::numbers_of(0, 0, 0, 0, 0),
-        Skeleton::Given(b) => law::numbers_of(1, b as u32, 0, 0, 0),
-        Skeleton::Fetch(p) => law::numbers_of(2, p, 0, 0, 0),
-        Skeleton::Ack => law::numbers_of(3, 0, 0, 0, 0),
-        Skeleton::NoAck => law::numbers_of(4, 0, 0, 0, 0),
-        Skeleton::Starts => law::numbers_of(5, 0, 0, 0, 0),
-        Skeleton::Ends => law::numbers_of(6, 0, 0, 0, 0),
-        Skeleton::NoCycle => law::numbers_of(7, 0, 0, 0, 0),
-    }
+    u32::from(a)
 }
 
 // Whether two skeleton replies are the same.
