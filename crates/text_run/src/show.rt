@@ -1,39 +1,37 @@
 // What is printed of each case.
-use line::{ReadRecord, Written};
+use line::WriteError;
 use record::Board;
 use std::io;
-use text::Checked;
-
-fn pair<R: Print>(rt: &R, number: u32, second: usize) -> io::Result<()> {
-    println!(rt; "{number} {second}")
-}
-
-fn three<R: Print>(rt: &R, number: u32, line: usize, bad: u32) -> io::Result<()> {
-    println!(rt; "{number}\t{line}\t{bad}")
-}
 
 // The case's name, the refusal's number, its line and its field.
 pub(crate) fn answer<R: Print>(rt: &R, name: &str, text: &[u8]) -> io::Result<()> {
-    print!(rt; "{name}\t")?;
     match text::check_text(text) {
-        Checked::Readable(_, _) => three(rt, 0, 0, 0),
-        Checked::Refused(answer, line, bad) => three(rt, record::answer_number(answer), line, bad),
+        Ok(_) => println!(rt; "{name}\t0\t0\t0"),
+        Err(refusal) => {
+            let number = u32::from(refusal.answer);
+            println!(rt; "{name}\t{number}\t{}\t{}", refusal.line, refusal.field)
+        }
     }
 }
 
+// The first n bytes, a line that was written.
 fn print_front<R: Print>(rt: &R, n: usize, bytes: &[u8]) -> io::Result<()> {
-    if n <= bytes.len() {
-        return rt.write_all(&bytes[..n]);
+    match bytes.get(..n) {
+        Some(line) => rt.write_all(line),
+        None => Ok(()),
     }
-    Ok(())
 }
 
-fn print_written<R: Print>(rt: &R, w: Written, bytes: &[u8]) -> io::Result<()> {
-    match w {
-        Written::OutOfRange => println!(rt; "9 0"),
-        Written::TooShort => println!(rt; "10 0"),
-        Written::Length(n) => {
-            pair(rt, 0, n)?;
+fn print_written<R: Print>(
+    rt: &R,
+    written: Result<usize, WriteError>,
+    bytes: &[u8],
+) -> io::Result<()> {
+    match written {
+        Err(WriteError::OutOfRange) => println!(rt; "9 0"),
+        Err(WriteError::TooShort) => println!(rt; "10 0"),
+        Ok(n) => {
+            println!(rt; "0 {n}")?;
             print_front(rt, n, bytes)
         }
     }
@@ -41,13 +39,11 @@ fn print_written<R: Print>(rt: &R, w: Written, bytes: &[u8]) -> io::Result<()> {
 
 // A record's line, read and written back.
 pub(crate) fn again<R: Print>(rt: &R, text: &[u8]) -> io::Result<()> {
-    let ReadRecord::Value(rec, _) = text::record_at(text, 0) else {
+    let Ok((rec, _)) = text::record_at(text, 0) else {
         return println!(rt; "no record");
     };
     let mut space: [u8; 32] = [0; 32];
-    let out: &mut [u8] = &mut space;
-    let w = line::write_record(rec, out);
-    let Written::Length(n) = w else {
+    let Ok(n) = line::write_record(rec, &mut space) else {
         return println!(rt; "not written");
     };
     print_front(rt, n, &space)
@@ -67,10 +63,9 @@ pub(crate) fn board<R: Print>(
         address,
     };
     let mut space: [u8; 32] = [0; 32];
-    let out: &mut [u8] = &mut space;
-    if out.len() < room {
+    if space.len() < room {
         return Ok(());
     }
-    let w = line::write_board(b, &mut out[..room]);
-    print_written(rt, w, &space)
+    let written = line::write_board(b, &mut space[..room]);
+    print_written(rt, written, &space)
 }
