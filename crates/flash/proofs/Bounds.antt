@@ -130,9 +130,7 @@ fact_waits None st lock = tt
 fact_waits (Some c) st lock = refl
 
 level_ok : (t lock : Bool) (s : ℕ) → wpen s ≡ t → FactOk (pick t (pick lock Locked Free) Absent) (Some s) lock
-level_ok true true s e = e
-level_ok true false s e = (e, refl)
-level_ok false lock s e = tt
+level_ok t lock s e = search rules
 
 fact_ok : (busy : Bool) (st : Option ℕ) (lock : Bool) → FactOk (fact_at busy st lock) st lock
 fact_ok busy st lock = search (level_ok, rules)

@@ -23,7 +23,7 @@ use Rattle.page.specs.Geometry.{flash_sector}
 use Rattle.flash.specs.Code.{decode_of, sector_of, locked_by, sector_locked, kept_bits, with_enable}
 use Rattle.flash.specs.Frame.{served, op_code_sent, opened_by, next_sent, fetch_of, identity_of, status_reply, reply_to, page_after, voided_by, locked_frame}
 use Rattle.flash.specs.Cycle.{running_of, blank, page_in, may_start, lock_bars, starts_if, sets_if, known_effect, effect_of, end_status, off_status}
-use Rattle.flash.specs.Step.{bare, byte_in, further_of, closed_by, effect_in, end_of, powered_of, dark_of, supply_off_of, lock_on_of}
+use Rattle.flash.specs.Step.{byte_in, further_of, closed_by, effect_in, end_of, powered_of, dark_of, supply_off_of, lock_on_of}
 use Rattle.flash.specs.Side.{Side, side_bus, side_says}
 use Rattle.flash.specs.Good.{WaitsOp, Waits, InCycle, is_program, Shut, CycleOk, Good}
 use Rattle.flash.specs.Told.{Running, programs, erases_all, bits_of, runs_in, runs_of, ToldFrame, closed, opened, command, Told, told_as, told_byte, told_put, later_of, told_bits, told_later, told, starts_of, TracksFrame, TracksStatus, TracksCycle, Tracks, hint_by, hint_in, hint_of, flash_control}
@@ -131,11 +131,7 @@ end_says : (c : Option FlashCycle) (fr : FlashFrame) (st : Option ℕ) (p : List
 end_says c fr st p = search (never_idle, rules)
 
 powered_says : (x : Flash) (e : FlashEvent) (lock : Bool) (w : ℕ) → InCycle x.cycle (Waits x.frame) → SaysStep (runs_of x) (powered_of x e lock w)
-powered_says x event.Select lock w h = kept x.cycle x.status x.page
-powered_says x (event.Byte si so) lock w h = byte_says x.frame x.cycle x.status x.page si w h
-powered_says x event.Cut lock w h = kept x.cycle x.status x.page
-powered_says x event.Deselect lock w h = deselect_says x.cycle x.frame x.status x.page h
-powered_says x event.End lock w h = end_says x.cycle x.frame x.status x.page
+powered_says x e lock w h = search (kept, byte_says, deselect_says, end_says, rules)
 
 dark_says : (x : Flash) (e : FlashEvent) → SaysStep (runs_of x) (dark_of x e)
 dark_says x e = search (kept, rules)
@@ -270,9 +266,7 @@ effect_tracks (Command op b fact) (Some s) p f h k =
     (known_tracks op b fact s p f.page f.bits f.later h.1 k)
 
 closed_tracks : (x : Flash) (e : Effect) (f : Told) → Tracks x f → EffectTracks x.status x.page f e → TracksStep f event.Deselect (closed_by x e)
-closed_tracks x Nothing f h k = record { in_frame = tt; in_status = h.in_status; in_cycle_lem = h.in_cycle_lem }
-closed_tracks x (Status s) f h k = record { in_frame = tt; in_status = k; in_cycle_lem = h.in_cycle_lem }
-closed_tracks x (Start c) f h k = record { in_frame = tt; in_status = h.in_status; in_cycle_lem = k.0 }
+closed_tracks x e f h k = search rules
 
 -- ---- `end`: the bits are those that were told for later
 end_status_lem : (c : Option FlashCycle) (st : Option ℕ) (bits later : ℕ) → CycleOk c → TracksStatus st bits → TracksCycle c bits later → running_of c ≡ true → TracksStatus (end_status c st) later
@@ -405,13 +399,7 @@ end_started None fr st p f = tt
 end_started (Some c) fr st p f = tt
 
 powered_started : (x : Flash) (e : FlashEvent) (lock : Bool) (w : ℕ) (f : Told) → Tracks x f → StartedStep f (powered_of x e lock w)
-powered_started x event.Select lock w f h = tt
-powered_started x (event.Byte si so) lock w f h =
-    quiet_started (skeleton_kind (byte_in x.frame x si w).reply) (runs_of (byte_in x.frame x si w).chip) f (byte_quiet x.frame x si w)
-powered_started x event.Cut lock w f h = tt
-powered_started x event.Deselect lock w f h =
-    closed_started x (effect_in x.frame x.status) f (effect_tracks x.frame x.status x.page f h.in_frame h.in_status)
-powered_started x event.End lock w f h = end_started x.cycle x.frame x.status x.page f
+powered_started x e lock w f h = search (closed_started, effect_tracks, end_started, rules)
 
 dark_started : (x : Flash) (e : FlashEvent) (f : Told) → StartedStep f (dark_of x e)
 dark_started x e f = search rules
@@ -471,11 +459,7 @@ tells_end true a b h = tells_ends h
 tells_end false a b h = tells_none h
 
 powered_tells : (x : Flash) (e : FlashEvent) (lock : Bool) (w : ℕ) (f : Told) → Tracks x f → Telling (powered_of x e lock w).reply (hint_of w f e)
-powered_tells x event.Select lock w f h = tells_silent Silent
-powered_tells x (event.Byte si so) lock w f h = tells_byte x.frame x f.frame x.page f.page si w h.in_frame
-powered_tells x event.Cut lock w f h = tells_silent Silent
-powered_tells x event.Deselect lock w f h = tells_closed x (effect_in x.frame x.status) Silent
-powered_tells x event.End lock w f h = tells_end (running_of x.cycle) (bare x.frame None (end_status x.cycle x.status) x.page) x Silent
+powered_tells x e lock w f h = search (tells_silent, tells_byte, tells_closed, tells_end, rules)
 
 dark_tells : (x : Flash) (e : FlashEvent) (w : ℕ) (f : Told) → Telling (dark_of x e).reply (hint_of w f e)
 dark_tells x e w f = search (tells_silent, tells_none, rules)

@@ -28,9 +28,9 @@ use Rattle.flash.specs.declared.FlashStep.{FlashStep}
 use Rattle.flash.specs.declared.Effect.{Effect}
 use Rattle.flash.specs.declared.Effect.TheVariants.{Nothing, Status, Start}
 use Rattle.flash.specs.Code.{sector_of}
-use Rattle.flash.specs.Cycle.{blank, page_in, running_of}
+use Rattle.flash.specs.Cycle.{blank, page_in}
 use Rattle.flash.specs.Frame.{fetch_of, identity_of, status_reply, reply_to, page_after}
-use Rattle.flash.specs.Step.{byte_in, closed_by, effect_in, powered_of, dark_of, step_of, supply_off_of, lock_on_of, line_of}
+use Rattle.flash.specs.Step.{byte_in, closed_by, powered_of, dark_of, step_of, supply_off_of, lock_on_of, line_of}
 
 -- what is sent is a byte
 abbrev pub Sends : FlashEvent → Type 0
@@ -77,11 +77,7 @@ bytes_closed f (Status s) h = bytes_in f.cycle f.page h
 bytes_closed f (Start c) h = bytes_in (Some c) f.page h
 
 bytes_powered : (f : Flash) (e : FlashEvent) (lock : Bool) (w : ℕ) → Sends e → BytePage f.page → BytePage (powered_of f e lock w).chip.page
-bytes_powered f Select lock w k h = bytes_in f.cycle f.page h
-bytes_powered f (Byte si so) lock w k h = bytes_byte f.frame f si w k h
-bytes_powered f Cut lock w k h = bytes_in f.cycle f.page h
-bytes_powered f Deselect lock w k h = bytes_closed f (effect_in f.frame f.status) h
-bytes_powered f End lock w k h = of_both (λ (x : FlashStep). BytePage x.chip.page) (running_of f.cycle) _ _ bytes_blank h
+bytes_powered f e lock w k h = search (bytes_in, bytes_byte, bytes_closed, bytes_blank, of_both, rules)
 
 bytes_dark : (f : Flash) (e : FlashEvent) → BytePage f.page → BytePage (dark_of f e).chip.page
 bytes_dark f e h = search (bytes_in, rules)
@@ -129,11 +125,7 @@ fetches_closed : (f : Flash) (e : Effect) → Fetches flash_sector (closed_by f 
 fetches_closed f e = search rules
 
 fetches_powered : (f : Flash) (e : FlashEvent) (lock : Bool) (w : ℕ) → Fetches flash_sector (powered_of f e lock w).reply
-fetches_powered f Select lock w = tt
-fetches_powered f (Byte si so) lock w = fetches_byte f.frame f si w
-fetches_powered f Cut lock w = tt
-fetches_powered f Deselect lock w = fetches_closed f (effect_in f.frame f.status)
-fetches_powered f End lock w = of_both (λ (x : FlashStep). Fetches flash_sector x.reply) (running_of f.cycle) _ _ tt tt
+fetches_powered f e lock w = search (fetches_byte, fetches_closed, of_both, rules)
 
 fetches_dark : (f : Flash) (e : FlashEvent) → Fetches flash_sector (dark_of f e).reply
 fetches_dark f e = search rules
