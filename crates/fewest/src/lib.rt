@@ -3,7 +3,7 @@
 #![tactic(auto)]
 
 // Tests of a place by its present byte and its wanted one: they differ; a bit has to rise from 0 to 1; the wanted one is not ff.
-#[derive(Clone, Copy)]
+#[derive(Clone, Copy, Debug, PartialEq, Eq)]
 pub enum Test {
     Differs,
     Rises,

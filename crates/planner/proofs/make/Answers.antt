@@ -1,5 +1,5 @@
 use Rattle.law.specs.Choice.{via}
-use Rattle.fewest.specs.Plan.{made_as}
+use Rattle.planner.specs.Made.{made_of}
 use Rattle.planner.proofs.Ending.{unfit, locked, goes}
 use Rattle.planner.proofs.make.Goals as goal
 
@@ -16,6 +16,6 @@ returns-then-differs_locked c =
 pub returns : goal.returns
 returns c =
     let a = c.args in
-    let r = c.lay_by.result in
-    goes a.present.now a.wanted.now a.status a.list.now a.res (made_as r.answer r.number c.lay_by.new.list) c.by_chip-chip.result
-    (via c.fits.ensures c.if-not-fits.false) (via c.differs_locked.ensures c.if-differs_locked.false) c.by_chip-chip.ensures c.lay_by.ensures
+    let r = c.lay.result in
+    goes a.present.now a.wanted.now a.status a.list.now a.res (made_of r c.lay.new.list) c.by_chip-chip.result
+    (via c.fits.ensures c.if-not-fits.false) (via c.differs_locked.ensures c.if-differs_locked.false) c.by_chip-chip.ensures c.lay.ensures
