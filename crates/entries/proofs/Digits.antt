@@ -5,7 +5,7 @@ use native.Mathlib.Numerals.{add-one}
 use mathlib.Core.Path.{◌≡◌, refl, sym, ap, ap₂, ◌∙◌}
 use mathlib.Core.List.{List, [], ◌∷◌, ◌++◌, append-nil, append_assoc}
 use lib.ListN.{length, get_or, take, drop, set, length-append, length-drop}
-use lib.Seq.{sets, take-suc, get_or-drop, length-take-le}
+use lib.Seq.{sets, take-suc, get_or-take, get_or-drop, length-take-le}
 use Rattle.page.specs.Geometry.{flash_page}
 use Rattle.field.specs.Ends.{lf}
 use Rattle.field.specs.Hex.{hex_field}
@@ -43,6 +43,10 @@ hex_more l k h =
     ∙ ap hex_bytes (take-suc l k 0 h)
     ∙ hex_append (take k l) (get_or l k 0 ∷ [])
     ∙ ap (λ (w : List ℕ). hex_bytes (take k l) ++ w) (hex_one (get_or l k 0))
+
+-- byte k of a page that stands at a place
+pub page_byte : (list : List ℕ) (from k m : ℕ) → k < flash_page → m ≡ flash_page → get_or (take m (drop from list)) k 0 ≡ get_or list (from + k) 0
+page_byte list from k m h e = get_or-take m (drop from list) k 0 (omega arith) ∙ get_or-drop from list k 0
 
 -- a turn of the loop over a page, and its end
 module _ (list old : List ℕ) (from first : ℕ) (inside : from + flash_page ≤ length list) where

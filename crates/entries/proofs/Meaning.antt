@@ -16,7 +16,8 @@ use Rattle.field.proofs.Reading.{stands_get_d, stands_length, stands_left, stand
 use Rattle.fewest.specs.Entries.{Entry, sector_erase, chip_erase, program}
 use Rattle.fewest.specs.Fewest.{address, first_place, spelled_entry, spelled_list}
 use Rattle.entries.specs.Printed.{hex_bytes, entry_line, entry_lines}
-use Rattle.entries.specs.Lines.{kind_at, page_at, entry_size, head_line, line_at, lines_from, Inside}
+use Rattle.planner.specs.declared.Kind.{Kind}
+use Rattle.entries.specs.Lines.{kind_at, page_at, entry_size, head_line, line_at, lines_from, Known, Inside, Kinds}
 
 -- a program has a whole page
 abbrev pub Whole : Entry → Type 0
@@ -66,6 +67,11 @@ module _ (list : List ℕ) (p : ℕ) where
   size_is chip_erase w s = ap entry_size (kind_is 2 _ s)
   size_is (program n bytes) w s = ap entry_size (kind_is 3 _ s) ∙ omega arith
 
+  known_is : (o : Entry) → Stands list p (spelled_entry o) → Known (kind_at list p)
+  known_is (sector_erase n) s = (Kind.SectorErase, sym (kind_is 1 _ s))
+  known_is chip_erase s = (Kind.ChipErase, sym (kind_is 2 _ s))
+  known_is (program n bytes) s = (Kind.Program, sym (kind_is 3 _ s))
+
   size_some : (o : Entry) → 0 < length (spelled_entry o)
   size_some (sector_erase n) = omega arith
   size_some chip_erase = omega arith
@@ -99,3 +105,8 @@ module _ (list : List ℕ) where
         omega (arith, size_is list p o w.0 h, stands_length list (spelled_entry o) p h (size_some list p o)),
         inside_are os (p + entry_size (kind_at list p)) w.1 (after o os p w.0 s),
       )
+
+  pub kinds_are : (os : List Entry) (p : ℕ) → All Whole os → Stands list p (spelled_list os) → Kinds list (length os) p
+  unfolding Kinds All
+  kinds_are [] p w s = tt
+  kinds_are (o ∷ os) p w s = (known_is list p o (here o os p w.0 s), kinds_are os (p + entry_size (kind_at list p)) w.1 (after o os p w.0 s))

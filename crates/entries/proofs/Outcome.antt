@@ -3,7 +3,6 @@ use Prim.Native.Nat.{ℕ, ◌+◌, ◌*◌, ◌/◌, ◌%◌, ◌≤◌, ◌<◌
 use native.Mathlib.Omega.{arith}
 use mathlib.Core.Path.{◌≡◌, refl, sym, ap, subst, ◌∙◌}
 use mathlib.Core.Bool.{false}
-use mathlib.Core.Logic.{⊎_elim}
 use mathlib.Core.List.{List, [], ◌∷◌, ◌++◌}
 use lib.ListN.{length, get_or, drop, length-append}
 use borrow.Author.Tests.{eq-eqb}
@@ -13,8 +12,6 @@ use Rattle.page.specs.Geometry.{flash_size, flash_page, chip_pages}
 use Rattle.record.specs.Lengths.{plan_result_length}
 use Rattle.buffers.specs.Buffers.{plan_result_after}
 use Rattle.listing.specs.Bytes.{number_at}
-use Rattle.field.specs.Hex.{hex_field}
-use Rattle.field.specs.Ends.{lf}
 use Rattle.field.specs.Decimal.{largest}
 use Rattle.field.specs.Reads.{Stands}
 use Rattle.fewest.specs.Entries.{Entry, sector_erase, chip_erase, program}
@@ -25,10 +22,10 @@ use Rattle.fewest.proofs.Theorems.{refusal_15}
 use Rattle.fewest.proofs.Outcomes.{the_plan}
 use Rattle.fewest.proofs.Sizes.{length_page, plan_room}
 use Rattle.entries.specs.Printed.{Usable, PlanPrinted, refusal_line, cycles_line, entry_lines, print_room}
-use Rattle.entries.specs.Lines.{lines_from, Inside, number_in, outcome_lines}
-use Rattle.entries.specs.Reading.{ReadsStatus, no_status}
+use Rattle.entries.specs.Lines.{lines_from, Inside, Kinds, number_in, outcome_lines}
+use Rattle.entries.proofs.Status.{Spells}
 use Rattle.entries.proofs.Putting.{cycles_length, refusal_length}
-use Rattle.entries.proofs.Meaning.{Whole, lines_are, inside_are}
+use Rattle.entries.proofs.Meaning.{Whole, lines_are, inside_are, kinds_are}
 use Rattle.entries.proofs.Bounds.{plan_most, many_most}
 
 -- four bytes, low byte first, are that number
@@ -41,14 +38,14 @@ number_back a h =
     let y : a / 16777216 ≡ 0 = omega arith in
     omega (arith, low_back a)
 
-module _ (present wanted text : List ℕ) (status : ℕ) (byte : status < 256) (read : ReadsStatus text status) (list result : List ℕ) (result_whole : length result ≡ plan_result_length) where
+module _ (present wanted text : List ℕ) (status : ℕ) (byte : status < 256) (read : Spells text status) (list result : List ℕ) (result_whole : length result ≡ plan_result_length) where
   -- the call's grounds of 14 are those of what is printed
   usable_if : Fits status present wanted list result → Usable present wanted text status
   usable_if f =
       record {
         present_whole = f.present_whole;
         wanted_whole = f.wanted_whole;
-        spelled = ⊎_elim (λ (e : status ≡ no_status). absurd (omega (arith, e, f.status_bits.1))) (λ (e : text ≡ hex_field status ++ lf). e) read.only;
+        spelled = read.only;
         status_bits = f.status_bits;
       }
 
@@ -84,6 +81,7 @@ module _ (present wanted text : List ℕ) (status : ℕ) (byte : status < 256) (
       pub is : PlanPrinted present wanted text (outcome_lines x.answer x.list x.result)
       pub most : length (outcome_lines x.answer x.list x.result) ≤ print_room
       pub inside : x.answer ≡ 0 → Inside x.list (number_in x.result) 0
+      pub kinds : x.answer ≡ 0 → Kinds x.list (number_in x.result) 0
 
     -- a plan's bytes
     module _ (os : List Entry) (fits : length (spelled_list os) ≤ length list) (whole : All Whole os) where
@@ -107,6 +105,9 @@ module _ (present wanted text : List ℕ) (status : ℕ) (byte : status < 256) (
       plan_inside : Inside (laid_over (spelled_list os) list) (number_in (plan_result_after 0 (length os) result)) 0
       plan_inside = subst (λ (n : ℕ). Inside (laid_over (spelled_list os) list) n 0) (sym number_is) (inside_are (laid_over (spelled_list os) list) os 0 whole at_start)
 
+      plan_kinds : Kinds (laid_over (spelled_list os) list) (number_in (plan_result_after 0 (length os) result)) 0
+      plan_kinds = subst (λ (n : ℕ). Kinds (laid_over (spelled_list os) list) n 0) (sym number_is) (kinds_are (laid_over (spelled_list os) list) os 0 whole at_start)
+
     -- a refusal
     refusal_most : (a : ℕ) → a ≤ largest → length (refusal_line a) ≤ print_room
     refusal_most a h = omega (arith, refusal_length a h)
@@ -118,12 +119,14 @@ module _ (present wanted text : List ℕ) (status : ℕ) (byte : status < 256) (
           is = PlanPrinted.unfit (λ s u. f (if_usable s u));
           most = refusal_most 14 (omega arith);
           inside = λ e. absurd (omega arith);
+          kinds = λ e. absurd (omega arith);
         }
     printable x (locked f d) =
         record {
           is = PlanPrinted.locked status (usable_if f) d;
           most = refusal_most 15 (omega arith);
           inside = λ e. absurd (omega arith);
+          kinds = λ e. absurd (omega arith);
         }
     printable x (no_room os f none is s) = absurd (omega (arith, never_short os f none is))
     printable x (planned os f none is s) =
@@ -143,4 +146,5 @@ module _ (present wanted text : List ℕ) (status : ℕ) (byte : status < 256) (
                 cycles_length (length os) (omega (arith, few os s whole)),
               );
           inside = λ e. plan_inside os s whole;
+          kinds = λ e. plan_kinds os s whole;
         }

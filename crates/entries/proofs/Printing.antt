@@ -21,9 +21,11 @@ use Rattle.fewest.specs.Plan.{called}
 use Rattle.fewest.specs.Call.{left_as, laid_over, Plans}
 use Rattle.fewest.proofs.Outcomes.{called_plans}
 use Rattle.planner.proofs.Laying.{laid_over_lem}
-use Rattle.entries.specs.Printed.{PrintsPlan, print_room, refusal_line, cycles_line}
-use Rattle.entries.specs.Lines.{lines_from, Inside, number_in, outcome_lines, Ready}
+use Rattle.entries.specs.Printed.{PlanPrinted, PrintsPlan, print_room, refusal_line, cycles_line}
+use Rattle.entries.specs.Lines.{lines_from, Inside, Kinds, number_in, outcome_lines, Ready}
+use Rattle.std.specs.Prelude.{Option, Some, None}
 use Rattle.entries.specs.Reading.{ReadsStatus}
+use Rattle.entries.proofs.Status.{Spells, spells, spells_none}
 use Rattle.entries.proofs.Putting.{cycles_length, refusal_length}
 use Rattle.entries.proofs.Outcome.{Printable, printable}
 
@@ -64,8 +66,12 @@ module _ (answer : ℕ) (list result old : List ℕ) (ready : Ready answer list 
       as_length : length (outcome_lines answer list result) ≡ length (lines_from list number 0) + length (cycles_line number)
       as_length = ap length as_number ∙ length-append (lines_from list number 0) (cycles_line number)
 
-      pub entries_room : Inside list number 0 × (length (lines_from list number 0) ≤ length old)
-      entries_room = (subst (λ (n : ℕ). Inside list n 0) (sym is) (ready.inside done), omega (arith, as_length, ready.enough))
+      pub entries_room : Inside list number 0 × Kinds list number 0 × (length (lines_from list number 0) ≤ length old)
+      entries_room = (
+        subst (λ (n : ℕ). Inside list n 0) (sym is) (ready.inside done),
+        subst (λ (n : ℕ). Kinds list n 0) (sym is) (ready.kinds done),
+        omega (arith, as_length, ready.enough),
+      )
 
       module _ (small : number ≤ largest) {s : Spelling} (put : s ≡ put_all no_bytes (cycles_line number)) (at : ℕ) (after : at ≡ length (lines_from list number 0)) where
         cycles_held : Holds s (cycles_line number)
@@ -82,11 +88,11 @@ module _ (answer : ℕ) (list result old : List ℕ) (ready : Ready answer list 
         )
 
 -- ---- the whole
-module _ (present wanted text old : List ℕ) (status : ℕ) (byte : status < 256) (read : ReadsStatus text status)
+module _ (present wanted text old : List ℕ) (status : ℕ) (byte : status < 256) (read : Spells text status)
     (presentBytes : (k : ℕ) → get_or present k 0 < 256) (wantedBytes : (k : ℕ) → get_or wanted k 0 < 256) where
   -- no room
-  pub short_left : length old < print_room → PrintsPlan present wanted text old old 0
-  short_left h =
+  short_some : length old < print_room → PrintsPlan present wanted text old old 0
+  short_some h =
       let list : List ℕ = replicate most_room 0 in
       let result : List ℕ = replicate plan_result_length 0 in
       let p =
@@ -100,7 +106,7 @@ module _ (present wanted text old : List ℕ) (status : ℕ) (byte : status < 25
     can = printable present wanted text status byte read list result result_whole presentBytes wantedBytes list-whole (left_as answer left end) plans
 
     pub outcome_ready : length end ≡ plan_result_length → Ready answer left end (length old)
-    outcome_ready e = record { whole = e; enough = omega (arith, can.most); inside = can.inside }
+    outcome_ready e = record { whole = e; enough = omega (arith, can.most); inside = can.inside; kinds = can.kinds }
 
     -- it stands at the front
     pub outcome_left : (new : List ℕ) (n : ℕ) → n ≡ length (outcome_lines answer left end) → new ≡ sets old 0 (outcome_lines answer left end) → PrintsPlan present wanted text old new n
@@ -111,6 +117,39 @@ module _ (present wanted text old : List ℕ) (status : ℕ) (byte : status < 25
           written = λ _. (e, f ∙ laid_over_lem (outcome_lines answer left end) old (omega (arith, can.most)));
           short = λ s. absurd (omega arith);
         }
+
+-- a text that spells no status
+module _ (present wanted text old : List ℕ) (read : ReadsStatus text None) where
+  is_unfit : PlanPrinted present wanted text (refusal_line 14)
+  is_unfit = PlanPrinted.unfit (λ s u. spells_none text read s u.status_bits.0 u.spelled)
+
+  module _ (number : ℕ) (is : number ≡ 14) (enough : print_room ≤ length old) {s : Spelling} (put : s ≡ put_all no_bytes (refusal_line number)) where
+    unfit_held : Holds s (refusal_line number)
+    unfit_held = holds (refusal_line number) put (omega (arith, refusal_length number (omega arith)))
+
+    pub unfit_room : (s.len ≤ room) × (0 + s.len ≤ length old)
+    unfit_room = (omega (arith, unfit_held.len, refusal_length number (omega arith)), omega (arith, unfit_held.len, refusal_length number (omega arith)))
+
+    pub unfit_left : (new : List ℕ) (n : ℕ) → n ≡ 0 + s.len → new ≡ sets old 0 (held s) → PrintsPlan present wanted text old new n
+    unfit_left new n e f =
+        let l = refusal_length number (omega arith) in
+        let same = ap refusal_line is in
+        record {
+          printed = refusal_line 14;
+          is = is_unfit;
+          written = λ _. (
+            omega (arith, unfit_held.len, ap (λ (b : List ℕ). length b) same),
+            f ∙ ap (sets old 0) (unfit_held.bytes ∙ same) ∙ laid_over_lem (refusal_line 14) old (omega (arith, ap (λ (b : List ℕ). length b) same)),
+          );
+          short = λ h. absurd (omega arith);
+        }
+
+-- no room, whatever the text spells
+pub short_left : (present wanted text old : List ℕ) (r : Option ℕ) → ReadsStatus text r → ((k : ℕ) → get_or present k 0 < 256) → ((k : ℕ) → get_or wanted k 0 < 256)
+    → length old < print_room → PrintsPlan present wanted text old old 0
+short_left present wanted text old None read p w h =
+    record { printed = refusal_line 14; is = is_unfit present wanted text old read; written = λ l. absurd (omega arith); short = λ l. (refl, refl) }
+short_left present wanted text old (Some status) read p w h = let s = spells text status read in short_some present wanted text old status s.byte s p w h
 
 -- n never reaches beyond the output
 pub within : {present wanted text old new : List ℕ} {n : ℕ} → PrintsPlan present wanted text old new n → n ≤ length new

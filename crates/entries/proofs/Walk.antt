@@ -12,12 +12,36 @@ use Rattle.law.specs.Choice.{of_both}
 use Rattle.page.specs.Geometry.{flash_page}
 use Rattle.field.specs.Ends.{lf}
 use Rattle.listing.proofs.Stores.{joined}
+use Rattle.std.specs.Prelude.{Result, Ok, Err, IsOk}
+use mathlib.Core.Logic.{◌⊎◌, ⊎_elim}
+use Rattle.planner.specs.declared.Kind.{Kind}
+use Rattle.planner.specs.declared.Kind.TheVariants.{SectorErase, ChipErase}
+use Rattle.planner.specs.declared.UnknownKind.{UnknownKind}
+use Rattle.planner.specs.Kinds.{kind_byte, Tells}
 use Rattle.entries.specs.Printed.{hex_bytes}
-use Rattle.entries.specs.Lines.{kind_at, head_at, page_at, entry_size, line_at, lines_from, Inside}
+use Rattle.entries.specs.Lines.{kind_at, head_at, page_at, entry_size, line_at, lines_from, Known, Inside, Kinds}
 use Rattle.entries.proofs.Digits.{hex_length}
 
 size_least : (kind : ℕ) → 4 ≤ entry_size kind
 size_least kind = of_both (λ (n : ℕ). 4 ≤ n) (eqb kind 3) 260 4 (omega arith) (omega arith)
+
+-- what reads a known byte as a kind has one, the kind of that byte
+pub told : (b : ℕ) (r : Result Kind UnknownKind) → Known b → Tells b r → IsOk r
+told b (Ok kind) k t = refl
+told b (Err e) k t = absurd (t.1 k.0 k.1)
+
+pub told_kind : (b : ℕ) (r : Result Kind UnknownKind) (kind : Kind) → r ≡ Ok kind → Tells b r → kind_byte kind ≡ b
+told_kind b r kind e t = subst (λ (s : Result Kind UnknownKind). Tells b s) e t
+
+-- an erase is no program
+pub no_program : (kind : Kind) → (kind ≡ SectorErase) ⊎ (kind ≡ ChipErase) → (b : ℕ) → kind_byte kind ≡ b → b ≡ 3 → ⊥
+no_program kind e b k z = ⊎_elim (λ (w : kind ≡ SectorErase). one (sym (ap kind_byte w) ∙ k ∙ z)) (λ (w : kind ≡ ChipErase). two (sym (ap kind_byte w) ∙ k ∙ z)) e
+  where
+    one : ◌≡◌ {A = ℕ} 1 3 → ⊥
+    one q = omega arith
+
+    two : ◌≡◌ {A = ℕ} 2 3 → ⊥
+    two q = omega arith
 
 pub inside_head : (kind p n : ℕ) → p + entry_size kind ≤ n → p + 4 ≤ n
 inside_head kind p n h = omega (arith, size_least kind)
@@ -70,41 +94,46 @@ module _ (list old : List ℕ) (number : ℕ) where
   pub record Still (left p at : ℕ) (out : List ℕ) : Type 0 where
     pub same : length out ≡ length old
     pub inside : Inside list left p
+    pub kinds : Kinds list left p
     pub many : at + length (lines_from list left p) ≡ length (lines_from list number 0)
     pub bytes : sets out at (lines_from list left p) ≡ sets old 0 (lines_from list number 0)
 
-  pub still_start : Inside list number 0 → Still number 0 0 old
-  still_start h = record { same = refl; inside = h; many = omega arith; bytes = refl }
+  pub still_start : Inside list number 0 → Kinds list number 0 → Still (number - 0) 0 0 old
+  still_start h k = let z : number ≡ number - 0 = omega arith in subst (λ (n : ℕ). Still n 0 0 old) z record { same = refl; inside = h; kinds = k; many = omega arith; bytes = refl }
 
-  less : (n : ℕ) → 0 < n → n ≡ suc (n - 1)
-  less n h = omega arith
+  -- a turn of the loop, which counts the entries passed
+  pub still_turn : (passed p at : ℕ) (out : List ℕ) → passed < number → Still (number - passed) p at out → Still (suc (number - (passed + 1))) p at out
+  still_turn passed p at out h s = let e : number - passed ≡ suc (number - (passed + 1)) = omega arith in subst (λ (n : ℕ). Still n p at out) e s
 
-  module _ (left p at : ℕ) (out : List ℕ) (s : Still left p at out) (h : 0 < left) where
-    as_lines : lines_from list left p ≡ line_at list p ++ lines_from list (left - 1) (p + entry_size (kind_at list p))
+  module _ (left p at : ℕ) (out : List ℕ) (s : Still (suc left) p at out) where
+    as_lines : lines_from list (suc left) p ≡ line_at list p ++ lines_from list left (p + entry_size (kind_at list p))
     unfolding lines_from
-    as_lines = ap (λ (n : ℕ). lines_from list n p) (less left h)
+    as_lines = refl
 
-    as_inside : (p + entry_size (kind_at list p) ≤ length list) × Inside list (left - 1) (p + entry_size (kind_at list p))
-    unfolding Inside
-    as_inside = subst (λ (n : ℕ). Inside list n p) (less left h) s.inside
-
-    as_length : length (lines_from list left p) ≡ length (line_at list p) + length (lines_from list (left - 1) (p + entry_size (kind_at list p)))
-    as_length = ap length as_lines ∙ length-append (line_at list p) (lines_from list (left - 1) (p + entry_size (kind_at list p)))
+    as_length : length (lines_from list (suc left) p) ≡ length (line_at list p) + length (lines_from list left (p + entry_size (kind_at list p)))
+    as_length = ap length as_lines ∙ length-append (line_at list p) (lines_from list left (p + entry_size (kind_at list p)))
 
     pub still_inside : p + entry_size (kind_at list p) ≤ length list
-    still_inside = as_inside.0
+    unfolding Inside
+    still_inside = s.inside.0
+
+    pub still_known : Known (kind_at list p)
+    unfolding Kinds
+    still_known = s.kinds.0
 
     pub still_room : length (lines_from list number 0) ≤ length old → at + length (line_at list p) ≤ length out
     still_room r = omega (arith, s.same, s.many, as_length)
 
     pub still_more : (size next : ℕ) (new : List ℕ) → size ≡ entry_size (kind_at list p) → next ≡ at + length (line_at list p) → new ≡ sets out at (line_at list p)
-        → Still (left - 1) (p + size) next new
+        → Still left (p + size) next new
+    unfolding Inside Kinds
     still_more size next new z e f =
-        let rest = lines_from list (left - 1) (p + entry_size (kind_at list p)) in
-        subst (λ (n : ℕ). Still (left - 1) (p + n) next new) (sym z)
+        let rest = lines_from list left (p + entry_size (kind_at list p)) in
+        subst (λ (n : ℕ). Still left (p + n) next new) (sym z)
         record {
           same = ap length f ∙ length-sets out at (line_at list p) ∙ s.same;
-          inside = as_inside.1;
+          inside = s.inside.1;
+          kinds = s.kinds.1;
           many = omega (arith, e, s.many, as_length);
           bytes =
               ap₂ (λ (o : List ℕ) (j : ℕ). sets o j rest) f e

@@ -5,6 +5,8 @@ use Rattle.page.specs.Geometry.{flash_page}
 use Rattle.field.specs.Ends.{tab, lf}
 use Rattle.record.specs.Lengths.{plan_result_length}
 use Rattle.listing.specs.Bytes.{number_at}
+use Rattle.planner.specs.declared.Kind.{Kind}
+use Rattle.planner.specs.Kinds.{kind_byte}
 use Rattle.entries.specs.Printed.{word_sector_erase, word_chip_erase, word_program, hex_bytes, cycles_line, refusal_line}
 
 -- by the kind byte: the word, what ends the address, how many bytes the entry has
@@ -16,6 +18,10 @@ address_end kind = pick (eqb kind 3) tab lf
 
 abbrev pub entry_size : ℕ → ℕ
 entry_size kind = pick (eqb kind 3) 260 4
+
+-- a byte that is an entry's kind
+abbrev pub Known : ℕ → Type 0
+Known b = (kind : Kind) × (kind_byte kind ≡ b)
 
 -- kind and address
 unfoldable pub head_line : ℕ → ℕ → ℕ → ℕ → List ℕ
@@ -45,6 +51,11 @@ module _ (list : List ℕ) where
   Inside zero p = Unit {0}
   Inside (suc n) p = (p + entry_size (kind_at p) ≤ length list) × Inside n (p + entry_size (kind_at p))
 
+  -- and each has the byte of a kind
+  unfoldable pub Kinds : ℕ → ℕ → Type 0
+  Kinds zero p = Unit {0}
+  Kinds (suc n) p = Known (kind_at p) × Kinds n (p + entry_size (kind_at p))
+
 -- the number of entries, behind the answer
 abbrev pub number_in : List ℕ → ℕ
 number_in result = number_at result 4
@@ -58,3 +69,4 @@ pub record Ready (answer : ℕ) (list result : List ℕ) (bytes : ℕ) : Type 0 
   pub whole : length result ≡ plan_result_length
   pub enough : length (outcome_lines answer list result) ≤ bytes
   pub inside : answer ≡ 0 → Inside list (number_in result) 0
+  pub kinds : answer ≡ 0 → Kinds list (number_in result) 0

@@ -1,21 +1,21 @@
 // The lines, and the beginnings of lines, that are put together before they are copied out.
 ghost use Rattle.std.specs.Prelude.{◌≡◌, [], ◌∷◌};
 ghost use Rattle.field.specs.Spelling.{no_bytes, put_all};
+ghost use Rattle.planner.specs.Kinds.{kind_byte};
 ghost use Rattle.entries.specs.Printed.{hex_bytes, cycles_line, refusal_line};
 ghost use Rattle.entries.specs.Lines.{kind_word, address_end, head_line};
 
 use field::Spelling;
+use planner::Kind;
 
-fn put_kind(s: Spelling, kind: u8) -> Spelling
-    ensures { result ≡ put_all s (kind_word kind) }
+fn put_kind(s: Spelling, kind: Kind) -> Spelling
+    ensures { result ≡ put_all s (kind_word (kind_byte kind)) }
 {
-    if kind == planner::PAGE_PROGRAM {
-        return field::put_word(s, b"program");
+    match kind {
+        Kind::SectorErase => field::put_word(s, b"sector-erase"),
+        Kind::ChipErase => field::put_word(s, b"chip-erase"),
+        Kind::Program => field::put_word(s, b"program"),
     }
-    if kind == planner::CHIP_ERASE {
-        return field::put_word(s, b"chip-erase");
-    }
-    field::put_word(s, b"sector-erase")
 }
 
 // The three bytes of an address, high byte first.
@@ -28,18 +28,18 @@ fn put_address(s: Spelling, high: u8, middle: u8, low: u8) -> Spelling
 }
 
 // A program's page follows its address.
-fn put_end(s: Spelling, kind: u8) -> Spelling
-    ensures { result ≡ put_all s (address_end kind) }
+fn put_end(s: Spelling, kind: Kind) -> Spelling
+    ensures { result ≡ put_all s (address_end (kind_byte kind)) }
 {
-    if kind == planner::PAGE_PROGRAM {
-        return field::put_word(s, b"\t");
+    match kind {
+        Kind::Program => field::put_word(s, b"\t"),
+        Kind::SectorErase | Kind::ChipErase => field::put_word(s, b"\n"),
     }
-    field::put_word(s, b"\n")
 }
 
 // Kind and address.
-pub(crate) fn head_line(kind: u8, high: u8, middle: u8, low: u8) -> Spelling
-    ensures { result ≡ put_all no_bytes (head_line kind high middle low) }
+pub(crate) fn head_line(kind: Kind, high: u8, middle: u8, low: u8) -> Spelling
+    ensures { result ≡ put_all no_bytes (head_line (kind_byte kind) high middle low) }
 {
     let s1 = put_kind(field::no_bytes(), kind);
     let s2 = field::put_word(s1, b"\t");

@@ -18,13 +18,9 @@ pub(crate) fn copy_line(s: Spelling, out: &mut [u8], at: usize) -> usize
     requires { (s.len ≤ room) × (at + s.len ≤ length out.old) }
     ensures { (result ≡ at + s.len) × (out.new ≡ sets out.old at (held s)) }
 {
-    let n = s.len;
-    let mut k = 0;
-    while k < n {
-        out[at + k] = s.bytes[k];
-        k += 1;
-    }
-    at + n
+    let end = at + s.len;
+    out[at..end].copy_from_slice(&s.bytes[..s.len]);
+    end
 }
 
 // A byte in hex, from a place of the output on; the place after it.
@@ -40,11 +36,10 @@ pub(crate) fn print_page(list: &[u8], from: usize, out: &mut [u8], first: usize)
     requires { (from + flash_page ≤ length list.now) × (first + (2 * flash_page + 1) ≤ length out.old) }
     ensures { (result ≡ first + (2 * flash_page + 1)) × (out.new ≡ sets out.old first (hex_bytes (page_at list.now from) ++ lf)) }
 {
+    let page = &list[from..from + PAGE];
     let mut at = first;
-    let mut k: usize = 0;
-    while k < PAGE {
-        at = print_byte(list[from + k], out, at);
-        k += 1;
+    for byte in page {
+        at = print_byte(*byte, out, at);
     }
     out[at] = b'\n';
     at + 1

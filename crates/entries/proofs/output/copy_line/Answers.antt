@@ -1,14 +1,11 @@
-use Rattle.std.proofs.Common.{◌≡◌, refl, arith}
-use Rattle.listing.proofs.Stores.{one_more}
+use Rattle.std.proofs.Common.{◌+◌, ◌-◌, ℕ, List, ap, ◌∙◌, refl, arith, length-drop}
+use lib.ListN.{length-take}
+use Rattle.std.proofs.lemmas.List.Edits.{sets}
+use Rattle.planner.proofs.Laying.{landed}
 use Rattle.entries.proofs.output.copy_line.Goals as goal
-
-pub loop-k-preserved : goal.loop-k-preserved
-loop-k-preserved c =
-    let a = c.args in
-    let l = c.loop-k in
-    (omega arith, one_more a.out.now a.s.bytes l.out a.at l.k (omega arith) l.invariant.1)
 
 pub returns : goal.returns
 returns c =
-    let k : c.loop-k.k ≡ c.args.s.len = omega arith in
-    (refl, rw k at c.loop-k.invariant.1)
+    let a = c.args in
+    let long = simp (length-take, length-drop) at c.copy_from_slice.ensures.len in
+    (refl, landed a.out.now c.copy_from_slice.new.self a.at (a.at + a.s.len - a.at) (omega (arith, long, c.requires.1)) (omega (arith, c.requires.1)) ∙ ap (λ (l : List ℕ). sets a.out.now a.at l) c.copy_from_slice.ensures.after)

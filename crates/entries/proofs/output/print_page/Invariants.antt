@@ -1,13 +1,9 @@
--- `entries::output::print_page`: the first k bytes are printed.
-use Rattle.std.proofs.Common.{◌≡◌, ◌+◌, ◌*◌, ◌-◌, ◌≤◌, take, drop}
-use lib.Seq.{sets}
-use Rattle.page.specs.Geometry.{flash_page}
+-- `entries::output::print_page`: the first bytes are printed.
+use Rattle.std.proofs.Common.{◌≡◌, ◌+◌, ◌*◌, take, drop}
+use Rattle.std.proofs.lemmas.List.Edits.{sets}
 use Rattle.entries.specs.Printed.{hex_bytes}
 use Rattle.entries.proofs.output.print_page.Given as goal
 
-abbrev pub invariant-loop-k : goal.invariant-loop-k
-invariant-loop-k l =
-    (l.k ≤ flash_page) × (l.at ≡ l.first + 2 * l.k) × (l.out ≡ sets l.fn.out l.first (hex_bytes (take l.k (drop l.from l.list))))
-
-abbrev pub decreases-loop-k : goal.decreases-loop-k
-decreases-loop-k l = flash_page - l.k
+abbrev pub invariant-loop-byte : goal.invariant-loop-byte
+invariant-loop-byte l =
+    (l.at ≡ l.first + 2 * l.byte-index) × (l.out ≡ sets l.fn.out l.first (hex_bytes (take l.byte-index (drop l.from l.list))))
