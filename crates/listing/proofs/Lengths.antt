@@ -1,9 +1,9 @@
 -- No line of a listing is longer than a spelling has room for, so a line that was put together holds just its bytes.
 use Prim.Native.Nat.{ℕ, ◌≤◌}
 use native.Mathlib.Omega.{arith}
-use mathlib.Core.Path.{◌≡◌, refl, sym, ap, subst}
+use mathlib.Core.Path.{◌≡◌, refl, ap}
 use mathlib.Core.Bool.{true}
-use mathlib.Core.List.{List, []}
+use mathlib.Core.List.{List}
 use lib.Dec.{eqb}
 use lib.ListN.{length, length-append}
 use borrow.Author.Tests.{eqb-true, leb-true}
@@ -13,13 +13,11 @@ use Rattle.record.specs.declared.Reply.{Reply}
 use Rattle.record.specs.declared.Reply.TheVariants.{NotPlayed, Silent, Byte, Ack, NoAck, Starts, Ends, NoCycle}
 use Rattle.record.specs.declared.Match.{Match}
 use Rattle.record.specs.declared.Match.TheVariants.{Nothing, Agrees, Disagrees}
-use Rattle.field.specs.declared.spelling.Spelling.{Spelling}
 use Rattle.field.specs.Decimal.{largest}
 use Rattle.field.specs.Hex.{hex_field}
-use Rattle.field.specs.Spelling.{no_bytes, put_all}
 use Rattle.field.specs.Room.{room}
 use Rattle.field.proofs.DecimalLaws.{decimal_digit}
-use Rattle.field.proofs.SpellingLaws.{Holds, holds_all, digits_count}
+use Rattle.field.proofs.SpellingLaws.{digits_count}
 use Rattle.listing.specs.Bytes.{is_refusal}
 use Rattle.listing.specs.Lines.{heading, byte_text, reply_text, match_text, record_line, settled_line, stop_line, last_line, refused_line}
 use Rattle.listing.specs.Pages.{pages_heading, chip_text, page_line}
@@ -86,10 +84,3 @@ chip_length Chip.Eeprom = omega arith
 pub page_length : (chip : Chip) (n stamp : ℕ) → n ≤ largest → stamp ≤ largest → length (page_line chip n stamp) ≤ room
 unfolding page_line
 page_length chip n stamp small little = simp length-append (omega (arith, chip_length chip, digits_count n small, digits_count stamp little))
-
--- a line put together from nothing holds just its bytes
-pub holds : (w : List ℕ) {s : Spelling} → s ≡ put_all no_bytes w → length w ≤ room → Holds s w
-holds w e h = subst (λ (k : Spelling). Holds k w) (sym e) (holds_all no_bytes [] w (record { bytes = refl; len = refl; whole = refl }) (omega arith))
-
-pub fits : (w : List ℕ) {s : Spelling} → s ≡ put_all no_bytes w → length w ≤ room → s.len ≤ room
-fits w e h = omega (arith, (holds w e h).len)

@@ -9,8 +9,7 @@ use lib.Seq.{sets}
 use borrow.Author.Tests.{eq-eqb, ne_eqb}
 use Rattle.record.specs.declared.Chip.{Chip}
 use Rattle.record.specs.declared.Chip.TheVariants.{Flash, Eeprom}
-use Rattle.field.specs.declared.spelling.Spelling.{Spelling}
-use Rattle.field.specs.Spelling.{held, no_bytes, put_all}
+use Rattle.field.specs.Spelling.{no_bytes, put_all}
 use Rattle.field.specs.Room.{room}
 use Rattle.times.specs.Times.{pages_of, first_entry, entry_length, entries}
 use Rattle.listing.specs.Bytes.{number_at}
@@ -45,8 +44,8 @@ module _ (table : List ℕ) (chip : Chip) (n : ℕ) (old : List ℕ) (at : ℕ) 
         let e : line ≡ [] = simp (eq-eqb _ _ t) in
         rewritten (sym e) (record { place = omega arith; content = refl; space = omega arith })
 
-    pub one_line : (get_or table (entry_length * (first + n)) 0 ≡ 0 → ⊥) → {stamp m : ℕ} {new : List ℕ} {s : Spelling} → stamp ≡ number_at table (entry_length * (first + n) + 1) → s ≡ put_all no_bytes (page_line chip n stamp)
-        → length (page_line chip n stamp) ≤ room → m ≡ at + s.len → new ≡ sets old at (held s) → ListsLines line old at 1 new m
+    pub one_line : (get_or table (entry_length * (first + n)) 0 ≡ 0 → ⊥) → {stamp m : ℕ} {new : List ℕ} {s : List ℕ} → stamp ≡ number_at table (entry_length * (first + n) + 1) → s ≡ put_all no_bytes (page_line chip n stamp)
+        → length (page_line chip n stamp) ≤ room → m ≡ at + length s → new ≡ sets old at s → ListsLines line old at 1 new m
     unfolding time_line time_at
     one_line h {stamp} {m} {new} {s} so e short p q =
         let t : get_or table (entry_length * (first_entry chip + n)) 0 ≡ 0 → ⊥ = λ z. h (ap (λ (k : ℕ). get_or table (entry_length * (k + n)) 0) is ∙ z) in

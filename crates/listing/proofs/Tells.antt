@@ -5,7 +5,6 @@ use mathlib.Core.List.{List}
 use lib.ListN.{length}
 use borrow.Author.Tests.{eq-eqb, ne_eqb}
 use Rattle.record.specs.Lengths.{result_length}
-use Rattle.field.specs.declared.spelling.Spelling.{Spelling}
 use Rattle.field.specs.Spelling.{no_bytes, put_all}
 use Rattle.listing.specs.Bytes.{answer_in, place_in, count_in, field_in}
 use Rattle.listing.specs.Lines.{refused_line}
@@ -21,11 +20,11 @@ module _ (result : List ℕ) (whole : length result ≡ result_length) where
   count_told = simp (eq-eqb _ _ whole)
 
   -- of the numbers that were read
-  pub refusal_read : {a n f : ℕ} {s : Spelling} → a ≡ answer_in result → n ≡ place_in result → f ≡ field_in result → s ≡ put_all no_bytes (refused_line a n f) → s ≡ put_all no_bytes (refusal_of result)
+  pub refusal_read : {a n f : ℕ} {s : List ℕ} → a ≡ answer_in result → n ≡ place_in result → f ≡ field_in result → s ≡ put_all no_bytes (refused_line a n f) → s ≡ put_all no_bytes (refusal_of result)
   refusal_read p q r e = e ∙ ap (put_all no_bytes) ((λ i. refused_line (p i) (q i) (r i)) ∙ sym refusal_told)
 
 module _ (result : List ℕ) (other : length result ≡ result_length → ⊥) where
-  pub refusal_untold : {s : Spelling} → s ≡ no_bytes → s ≡ put_all no_bytes (refusal_of result)
+  pub refusal_untold : {s : List ℕ} → s ≡ no_bytes → s ≡ put_all no_bytes (refusal_of result)
   unfolding refusal_of put_all
   refusal_untold e = e ∙ simp (ne_eqb _ _ other)
 

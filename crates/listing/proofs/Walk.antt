@@ -13,19 +13,18 @@ use Rattle.record.specs.declared.Record.{Record}
 use Rattle.record.specs.declared.Reply.{Reply}
 use Rattle.record.specs.declared.Match.{Match}
 use Rattle.record.specs.Lengths.{reply_places}
-use Rattle.field.specs.declared.spelling.Spelling.{Spelling}
 use Rattle.field.specs.Reads.{Stands}
-use Rattle.field.specs.Spelling.{held, no_bytes, put_all}
+use Rattle.field.specs.Spelling.{no_bytes, put_all}
 use Rattle.field.specs.Room.{room}
 use Rattle.field.proofs.Reading.{Got}
-use Rattle.field.proofs.SpellingLaws.{Holds}
+use Rattle.field.proofs.SpellingLaws.{holds}
 use Rattle.line.specs.Boards.{spelled_board, BoardOk}
 use Rattle.line.specs.Records.{spelled, RecordOk}
 use Rattle.listing.specs.Bytes.{was_played, reply_at, match_at}
 use Rattle.listing.specs.Lines.{heading, record_line}
 use Rattle.listing.specs.Listing.{ListedFrom, Listed, record_lines}
 use Rattle.listing.specs.Writing.{ListsRecords, ListsPlayed}
-use Rattle.listing.proofs.Lengths.{heading_length, record_length, holds}
+use Rattle.listing.proofs.Lengths.{heading_length, record_length}
 use Rattle.listing.proofs.Stores.{joined, then}
 use Rattle.listing.proofs.Which.{listed_behind}
 
@@ -68,8 +67,8 @@ module _ {text : List ℕ} {first : ℕ} {replies old : List ℕ} {from : ℕ} {
   }
 
   -- one record more
-  step : (r : Record) {s : Spelling} {new' : List ℕ} {next at' : ℕ} → Got spelled RecordOk text c r next → was_played (reply_at replies k) ≡ true → k < reply_places
-      → s ≡ put_all no_bytes (record_line (k + 2) r.stamp (reply_at replies k) (match_at replies k)) → at' ≡ at + s.len → new' ≡ sets new at (held s)
+  step : (r : Record) {s : List ℕ} {new' : List ℕ} {next at' : ℕ} → Got spelled RecordOk text c r next → was_played (reply_at replies k) ≡ true → k < reply_places
+      → s ≡ put_all no_bytes (record_line (k + 2) r.stamp (reply_at replies k) (match_at replies k)) → at' ≡ at + length s → new' ≡ sets new at s
       → So text first replies old from new' at' next (k + 1)
   unfolding ListedFrom
   step r {s} {new'} {next} {at'} g played small e p f = record {
@@ -77,9 +76,9 @@ module _ {text : List ℕ} {first : ℕ} {replies old : List ℕ} {from : ℕ} {
     many = length-append so.records (r ∷ []) ∙ ap (λ (n : ℕ). n + 1) so.many;
     goes = λ rs l. subst (λ (xs : List Record). ListedFrom text replies first 0 xs) (sym (append_snoc so.records r rs))
         (so.goes (r ∷ rs) (g.ok, g.stands, played, subst (λ (n : ℕ). ListedFrom text replies (c + length (spelled r)) n rs) (add-one k) (subst (λ (n : ℕ). ListedFrom text replies n (k + 1) rs) g.next l)));
-    place = omega (arith, p, so.place, h.len, length-append before line, ap length whole);
-    content = f ∙ ap₂ (λ (l : List ℕ) (j : ℕ). sets l j (held s)) so.content so.place ∙ joined before (held s) old from ∙ ap (λ (w : List ℕ). sets old from w) (ap (λ (w : List ℕ). before ++ w) h.bytes ∙ whole);
-    space = omega (arith, p, so.space, h.len, short);
+    place = omega (arith, p, so.place, ap length h, length-append before line, ap length whole);
+    content = f ∙ ap₂ (λ (l : List ℕ) (j : ℕ). sets l j s) so.content so.place ∙ joined before s old from ∙ ap (λ (w : List ℕ). sets old from w) (ap (λ (w : List ℕ). before ++ w) h ∙ whole);
+    space = omega (arith, p, so.space, ap length h, short);
   }
     where
       before : List ℕ
@@ -91,7 +90,7 @@ module _ {text : List ℕ} {first : ℕ} {replies old : List ℕ} {from : ℕ} {
       short : length line ≤ room
       short = record_length (k + 2) r.stamp (omega arith) g.ok.0 (reply_at replies k) (match_at replies k)
 
-      h : Holds s line
+      h : s ≡ line
       h = holds line e short
 
       whole : before ++ line ≡ record_lines replies 0 (so.records ++ (r ∷ []))
@@ -104,8 +103,8 @@ module _ {text : List ℕ} {first : ℕ} {replies old : List ℕ} {from : ℕ} {
     pub unplayed : was ≡ false → ListsRecords (ListedFrom text replies first 0) replies old from new at
     unplayed t = over (λ r o s. sym (ap was_played is) ∙ sym does ∙ t)
 
-    pub onward : {r : Record} {found : Match} {s : Spelling} {new' : List ℕ} {next at' : ℕ} → was ≡ true → Got spelled RecordOk text c r next → found ≡ match_at replies k → k < reply_places
-        → s ≡ put_all no_bytes (record_line (k + 2) r.stamp reply found) → at' ≡ at + s.len → new' ≡ sets new at (held s)
+    pub onward : {r : Record} {found : Match} {s : List ℕ} {new' : List ℕ} {next at' : ℕ} → was ≡ true → Got spelled RecordOk text c r next → found ≡ match_at replies k → k < reply_places
+        → s ≡ put_all no_bytes (record_line (k + 2) r.stamp reply found) → at' ≡ at + length s → new' ≡ sets new at s
         → So text first replies old from new' at' next (k + 1)
     onward {r} t g same small e p f =
         step r g (sym (ap was_played is) ∙ sym does ∙ t) small (e ∙ ap₂ (λ (x : Reply) (m : Match). put_all no_bytes (record_line (k + 2) r.stamp x m)) is same) p f
@@ -124,13 +123,13 @@ unfolding record_lines
 no_board_lem {from = from} n = record { records = []; listed = record { behind = λ b o s. absurd (n b o s); none = λ m. refl }; place = sym (add-zero from); content = refl }
 
 -- the heading first
-pub headed : {text replies old mid new : List ℕ} {from n : ℕ} {s : Spelling} → s ≡ put_all no_bytes heading → from ≡ 0 + s.len → mid ≡ sets old 0 (held s) → ListsRecords (Listed text replies) replies mid from new n → ListsPlayed text replies old new n
+pub headed : {text replies old mid new : List ℕ} {from n : ℕ} {s : List ℕ} → s ≡ put_all no_bytes heading → from ≡ 0 + length s → mid ≡ sets old 0 s → ListsRecords (Listed text replies) replies mid from new n → ListsPlayed text replies old new n
 headed {text} {replies} {old} {mid} {new} {from} {n} {s} e p f l = record {
   records = l.records;
   listed = l.listed;
-  place = omega (arith, p, h.len, l.place, length-append heading (record_lines replies 0 l.records));
-  content = then heading (record_lines replies 0 l.records) old new (f ∙ ap (λ (w : List ℕ). sets old 0 w) h.bytes) (p ∙ zero-add s.len ∙ h.len) l.content;
+  place = omega (arith, p, ap length h, l.place, length-append heading (record_lines replies 0 l.records));
+  content = then heading (record_lines replies 0 l.records) old new (f ∙ ap (λ (w : List ℕ). sets old 0 w) h) (p ∙ zero-add (length s) ∙ ap length h) l.content;
 }
   where
-    h : Holds s heading
+    h : s ≡ heading
     h = holds heading e (omega (arith, heading_length))

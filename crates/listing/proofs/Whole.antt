@@ -11,16 +11,16 @@ use lib.Seq.{sets, length-sets}
 use borrow.Author.Tests.{eq-eqb, ne_eqb, lt-ltb, le-ltb, eqb-true}
 use Rattle.std.specs.Prelude.{Some, None}
 use Rattle.law.specs.Choice.{split}
-use Rattle.field.specs.declared.spelling.Spelling.{Spelling}
-use Rattle.field.specs.Spelling.{held, no_bytes, put_all}
+use Rattle.field.specs.Spelling.{no_bytes, put_all}
 use Rattle.field.specs.Room.{room}
+use Rattle.field.proofs.SpellingLaws.{holds}
 use Rattle.record.specs.Lengths.{replies_length, result_length, reply_places}
 use Rattle.listing.specs.Bytes.{answer_in, place_in, count_in, field_in, is_refusal}
 use Rattle.listing.specs.Lines.{heading, last_line, refused_line}
 use Rattle.listing.specs.Listing.{record_lines, listing_with, listing_room, where_fit, Formats, Lists}
 use Rattle.listing.specs.Writing.{ListsPlayed, ListsLines, told_of}
 use Rattle.listing.specs.declared.told.Told.{Told}
-use Rattle.listing.proofs.Lengths.{heading_length, holds}
+use Rattle.listing.proofs.Lengths.{heading_length}
 use Rattle.listing.proofs.Stores.{then, front}
 use Rattle.listing.proofs.Which.{some_listed, from_somewhere, few, lines_length}
 
@@ -29,10 +29,8 @@ pub rewritten : {w v old new : List ℕ} {from most n : ℕ} → w ≡ v → Lis
 rewritten {w} {v} {old} {new} {from} {most} {n} e l = subst (λ (u : List ℕ). ListsLines u old from most new n) e l
 
 -- a line that was put together and copied out
-pub line_written : (w old new : List ℕ) (from n : ℕ) {s : Spelling} → s ≡ put_all no_bytes w → length w ≤ room → n ≡ from + s.len → new ≡ sets old from (held s) → ListsLines w old from 1 new n
-line_written w old new from n {s} e short p q =
-    let h = holds w e short in
-    record { place = omega (arith, p, h.len); content = q ∙ ap (λ (v : List ℕ). sets old from v) h.bytes; space = omega (arith, p, h.len) }
+pub line_written : (w old new : List ℕ) (from n : ℕ) {s : List ℕ} → s ≡ put_all no_bytes w → length w ≤ room → n ≡ from + length s → new ≡ sets old from s → ListsLines w old from 1 new n
+line_written w old new from n e short p q = rewritten (holds w e short) (record { place = p; content = q; space = omega (arith, p, ap length (holds w e short)) })
 
 -- ---- which listing it is
 module _ (head lines result : List ℕ) where

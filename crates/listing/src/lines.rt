@@ -7,33 +7,34 @@ ghost use Rattle.listing.specs.Lines.{heading, byte_text, reply_text, match_text
 use field::Spelling;
 use record::{Chip, Match, Reply};
 
+#[tactic(auto, unfolding(crate::specs::Lines::heading))]
 pub fn heading_line() -> Spelling
     ensures { result ≡ put_all no_bytes heading }
 {
-    field::put_word(field::no_bytes(), b"line\tstamp\treply\tmatch\n")
+    Spelling::new().word(b"line\tstamp\treply\tmatch\n")
 }
 
 // value/mask
+#[tactic(auto, using(field::proofs::SpellingLaws::put_then), unfolding(crate::specs::Lines::byte_text))]
 fn put_byte(s: Spelling, value: u8, mask: u8) -> Spelling
     ensures { result ≡ put_all s (byte_text value mask) }
 {
-    let s1 = field::put_hex(s, value);
-    let s2 = field::put_word(s1, b"/");
-    field::put_hex(s2, mask)
+    s.hex(value).word(b"/").hex(mask)
 }
 
+#[tactic(auto, unfolding(crate::specs::Lines::reply_text, field::specs::Spelling::put_all))]
 fn put_reply(s: Spelling, reply: Reply) -> Spelling
     ensures { result ≡ put_all s (reply_text reply) }
 {
     match reply {
         Reply::NotPlayed => s,
-        Reply::Silent => field::put_word(s, b"-"),
+        Reply::Silent => s.word(b"-"),
         Reply::Byte(value, mask) => put_byte(s, value, mask),
-        Reply::Ack => field::put_word(s, b"ack"),
-        Reply::NoAck => field::put_word(s, b"no"),
-        Reply::Starts => field::put_word(s, b"starts"),
-        Reply::Ends => field::put_word(s, b"ends"),
-        Reply::NoCycle => field::put_word(s, b"idle"),
+        Reply::Ack => s.word(b"ack"),
+        Reply::NoAck => s.word(b"no"),
+        Reply::Starts => s.word(b"starts"),
+        Reply::Ends => s.word(b"ends"),
+        Reply::NoCycle => s.word(b"idle"),
     }
 }
 
@@ -42,42 +43,38 @@ fn put_match(s: Spelling, found: Match) -> Spelling
     ensures { result ≡ put_all s (match_text found) }
 {
     match found {
-        Match::Nothing => field::put_word(s, b"."),
-        Match::Agrees => field::put_word(s, b"="),
-        Match::Disagrees => field::put_word(s, b"!"),
+        Match::Nothing => s.word(b"."),
+        Match::Agrees => s.word(b"="),
+        Match::Disagrees => s.word(b"!"),
     }
 }
 
 // Line number, stamp, reply and match.
+#[tactic(auto, using(field::proofs::SpellingLaws::put_then), unfolding(crate::specs::Lines::record_line))]
 pub fn record_line(number: u32, stamp: u32, reply: Reply, found: Match) -> Spelling
     ensures { result ≡ put_all no_bytes (record_line number stamp reply found) }
 {
-    let s1 = field::put_decimal(field::no_bytes(), number);
-    let s2 = field::put_word(s1, b"\t");
-    let s3 = field::put_decimal(s2, stamp);
-    let s4 = field::put_word(s3, b"\t");
-    let s5 = put_reply(s4, reply);
-    let s6 = field::put_word(s5, b"\t");
-    let s7 = put_match(s6, found);
-    field::put_word(s7, b"\n")
+    let s = Spelling::new().decimal(number).word(b"\t").decimal(stamp);
+    let s = put_reply(s.word(b"\t"), reply);
+    put_match(s.word(b"\t"), found).word(b"\n")
 }
 
+#[tactic(auto, using(field::proofs::SpellingLaws::put_then), unfolding(crate::specs::Lines::settled_line))]
 fn settled_line(count: u32) -> Spelling
     ensures { result ≡ put_all no_bytes (settled_line count) }
 {
-    let s1 = field::put_word(field::no_bytes(), b"settled\t");
-    let s2 = field::put_decimal(s1, count);
-    field::put_word(s2, b"\n")
+    Spelling::new()
+        .word(b"settled\t")
+        .decimal(count)
+        .word(b"\n")
 }
 
+#[tactic(auto, using(field::proofs::SpellingLaws::put_then), unfolding(crate::specs::Lines::stop_line))]
 fn stop_line(number: u32, stamp: u32) -> Spelling
     ensures { result ≡ put_all no_bytes (stop_line number stamp) }
 {
-    let s1 = field::put_word(field::no_bytes(), b"stop\t");
-    let s2 = field::put_decimal(s1, number);
-    let s3 = field::put_word(s2, b"\t");
-    let s4 = field::put_decimal(s3, stamp);
-    field::put_word(s4, b"\n")
+    let s = Spelling::new().word(b"stop\t").decimal(number);
+    s.word(b"\t").decimal(stamp).word(b"\n")
 }
 
 // The last line of what was played.
@@ -92,41 +89,36 @@ pub fn last_line(answer: u32, stamp: u32, count: u32) -> Spelling
 }
 
 // A refusal's number, its line, and the line's first bad field.
+#[tactic(auto, using(field::proofs::SpellingLaws::put_then), unfolding(crate::specs::Lines::refused_line))]
 pub fn refused_line(number: u32, line: u32, bad: u32) -> Spelling
     ensures { result ≡ put_all no_bytes (refused_line number line bad) }
 {
-    let s1 = field::put_word(field::no_bytes(), b"refused\t");
-    let s2 = field::put_decimal(s1, number);
-    let s3 = field::put_word(s2, b"\t");
-    let s4 = field::put_decimal(s3, line);
-    let s5 = field::put_word(s4, b"\t");
-    let s6 = field::put_decimal(s5, bad);
-    field::put_word(s6, b"\n")
+    let s = Spelling::new().word(b"refused\t").decimal(number);
+    let s = s.word(b"\t").decimal(line);
+    s.word(b"\t").decimal(bad).word(b"\n")
 }
 
+#[tactic(auto, unfolding(crate::specs::Pages::pages_heading))]
 pub fn pages_heading_line() -> Spelling
     ensures { result ≡ put_all no_bytes pages_heading }
 {
-    field::put_word(field::no_bytes(), b"chip\tpage\tstamp\n")
+    Spelling::new().word(b"chip\tpage\tstamp\n")
 }
 
 fn put_chip(s: Spelling, chip: Chip) -> Spelling
     ensures { result ≡ put_all s (chip_text chip) }
 {
     match chip {
-        Chip::Flash => field::put_word(s, b"flash"),
-        Chip::Eeprom => field::put_word(s, b"eeprom"),
+        Chip::Flash => s.word(b"flash"),
+        Chip::Eeprom => s.word(b"eeprom"),
     }
 }
 
 // Chip, page number and stamp.
+#[tactic(auto, using(field::proofs::SpellingLaws::put_then), unfolding(crate::specs::Pages::page_line))]
 pub fn page_line(chip: Chip, number: u32, stamp: u32) -> Spelling
     ensures { result ≡ put_all no_bytes (page_line chip number stamp) }
 {
-    let s1 = put_chip(field::no_bytes(), chip);
-    let s2 = field::put_word(s1, b"\t");
-    let s3 = field::put_decimal(s2, number);
-    let s4 = field::put_word(s3, b"\t");
-    let s5 = field::put_decimal(s4, stamp);
-    field::put_word(s5, b"\n")
+    let s = put_chip(Spelling::new(), chip).word(b"\t");
+    s.decimal(number).word(b"\t").decimal(stamp).word(b"\n")
 }

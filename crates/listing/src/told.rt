@@ -62,7 +62,7 @@ pub fn refusal_of(res: &[u8]) -> Spelling
 {
     match Told::of(res) {
         Some(told) => told.refused_line(),
-        None => field::no_bytes(),
+        None => Spelling::new(),
     }
 }
 

@@ -1,7 +1,6 @@
 use native.Mathlib.Omega.{arith}
 use Rattle.field.proofs.Answers.{tells_got}
 use Rattle.field.proofs.Reading.{got_none, got_one}
-use Rattle.listing.proofs.Lengths.{record_length, fits}
 use Rattle.listing.proofs.Which.{beyond}
 use Rattle.listing.proofs.Walk.{begun, over, unplayed, onward}
 use Rattle.listing.proofs.list_from.Goals as goal
@@ -16,7 +15,7 @@ pub returns-then-not-was_played : goal.returns-then-not-was_played
 returns-then-not-was_played c = unplayed c.loop-k.invariant c.reply_at-reply.ensures c.was_played.ensures c.if-not-was_played.true
 
 pub copy_line-at-requires : goal.copy_line-at-requires
-copy_line-at-requires c = let g = got_one tells_got c.record_at.ensures _ _ c.in-Ok.is in (fits _ c.record_line-line.ensures (record_length _ _ (omega arith) g.ok.0 _ _), omega (arith, c.loop-k.invariant.space))
+copy_line-at-requires c = omega (arith, c.loop-k.invariant.space)
 
 pub loop-k-preserved : goal.loop-k-preserved
 loop-k-preserved c = onward c.loop-k.invariant c.reply_at-reply.ensures c.was_played.ensures c.if-not-was_played.false (got_one tells_got c.record_at.ensures _ _ c.in-Ok.is) c.match_at.ensures c.loop-k-test.true c.record_line-line.ensures c.copy_line-at.ensures.0 c.copy_line-at.ensures.1

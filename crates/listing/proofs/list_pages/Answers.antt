@@ -2,7 +2,7 @@ use native.Mathlib.Omega.{arith}
 use mathlib.Core.Path.{sym, ◌∙◌}
 use borrow.Author.Rules.{rules}
 use Rattle.law.specs.Choice.{via}
-use Rattle.listing.proofs.Lengths.{refused_length, last_length, fits}
+use Rattle.listing.proofs.Lengths.{refused_length, last_length}
 use Rattle.listing.proofs.Whole.{untold, other_result, line_written, refused, ended}
 use Rattle.listing.proofs.list_pages.Goals as goal
 
@@ -10,7 +10,7 @@ pub returns-in_default : goal.returns-in_default
 returns-in_default c = other_result _ _ _ _ _ (untold _ (sym c.of.ensures ∙ c.in_default.is))
 
 pub copy_line-requires : goal.copy_line-requires
-copy_line-requires c = (fits _ c.refused_line.ensures (refused_length _ _ _ (via c.refuses.ensures c.if-refuses.true) (search rules) (search rules)), omega arith)
+copy_line-requires c = omega arith
 
 pub returns-then-refuses : goal.returns-then-refuses
 returns-then-refuses c =
@@ -18,7 +18,7 @@ returns-then-refuses c =
     refused _ _ _ _ c.if-table-ne-TIMES.false (omega arith) (sym c.of.ensures ∙ c.in-Some.is) _ _ (via c.refuses.ensures c.if-refuses.true) l
 
 pub copy_line-requires-2 : goal.copy_line-requires-2
-copy_line-requires-2 c = (fits _ c.last_line.ensures (last_length _ _ _ (search rules) (search rules) (search rules)), omega (arith, c.list_written-at.ensures.space, c.list_written-at.auto.out))
+copy_line-requires-2 c = omega (arith, c.list_written-at.ensures.space, c.list_written-at.auto.out)
 
 pub returns : goal.returns
 returns c =

@@ -1,5 +1,15 @@
-use Rattle.listing.proofs.Putting.{put_record_line}
+use Rattle.line.proofs.Put.{put_on}
+use Rattle.listing.proofs.Putting.{put_three, put_from}
+use Rattle.listing.specs.Lines.{record_line}
 use Rattle.listing.proofs.lines.record_line.Goals as goal
 
 pub returns : goal.returns
-returns c = put_record_line _ _ _ _ c.no_bytes.ensures c.put_decimal-s1.ensures c.put_word-s2.ensures c.put_decimal-s3.ensures c.put_word-s4.ensures c.put_reply-s5.ensures c.put_word-s6.ensures c.put_match-s7.ensures c.put_word.ensures
+unfolding record_line
+returns c =
+    put_from _ c.new.ensures
+    (put_on _ _ _ c.decimal.ensures
+    (put_on _ _ _ c.word.ensures
+    (put_on _ _ _ c.decimal-s.ensures
+    (put_on _ _ _ c.word-2.ensures
+    (put_on _ _ _ c.put_reply-s.ensures
+    (put_three _ _ _ _ c.word-3.ensures c.put_match.ensures c.word-4.ensures))))))

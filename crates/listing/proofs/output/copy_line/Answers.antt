@@ -1,7 +1,10 @@
 use native.Mathlib.Omega.{arith}
-use lib.ListN.{length-set}
-use Rattle.listing.proofs.Stores.{one_more}
+use mathlib.Core.Path.{ap, ◌∙◌}
+use lib.ListN.{length}
+use Rattle.listing.proofs.Stores.{copied}
 use Rattle.listing.proofs.output.copy_line.Goals as goal
 
-pub loop-k-preserved : goal.loop-k-preserved
-loop-k-preserved c = (omega arith, simp length-set c.loop-k.invariant.1, one_more c.args.out.now c.args.s.bytes c.loop-k.out c.args.at c.loop-k.k (omega arith) c.loop-k.invariant.2)
+pub returns : goal.returns
+returns c =
+    let e = ap length c.as_slice-bytes.ensures.held in
+    (omega (arith, e), copied _ _ _ _ _ (omega (arith, c.as_slice-bytes.ensures.fits)) (omega (arith, e)) (c.copy_from_slice.ensures.after ∙ c.as_slice-bytes.ensures.held))
