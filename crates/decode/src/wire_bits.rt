@@ -48,74 +48,6 @@ impl BytePart {
     }
 }
 
-// The clock that is high is no bit.
-fn start_turn(link: Option<BytePart>) -> Turn<WireBits>
-    ensures { result ≡ start_turn link }
-{
-    let out = match link {
-        None => Out::One(Event::Eeprom(EepromEvent::Start)),
-        Some(part) => part.then(EepromEvent::Start),
-    };
-    turned(Some(BytePart::none()), None, out)
-}
-
-// With no start open a stop is passed over.
-fn stop_turn(link: Option<BytePart>) -> Turn<WireBits>
-    ensures { result ≡ stop_turn link }
-{
-    let out = match link {
-        None => Out::Nothing,
-        Some(part) => part.then(EepromEvent::Stop),
-    };
-    turned(None, None, out)
-}
-
-// The ninth bit is the acknowledge; with no start open a clock is passed over.
-fn bit_turn(link: Option<BytePart>, level: bool) -> Turn<WireBits>
-    ensures { result ≡ bit_turn link level }
-{
-    let Some(part) = link else {
-        return turned(None, None, Out::Nothing);
-    };
-    if part.count < 8 {
-        let more = BytePart {
-            count: part.count + 1,
-            value: crate::push_bit(part.value, level),
-        };
-        return turned(Some(more), None, Out::Nothing);
-    }
-    let byte = Event::Eeprom(EepromEvent::Byte(part.value, level));
-    turned(Some(BytePart::none()), None, Out::One(byte))
-}
-
-// SCL falls: its bit counts.
-fn fall_turn(link: Option<BytePart>, clock: Option<bool>) -> Turn<WireBits>
-    ensures { result ≡ fall_turn link clock }
-{
-    match clock {
-        None => turned(link, None, Out::Nothing),
-        Some(level) => bit_turn(link, level),
-    }
-}
-
-// SCL stays high: SDA falls in a start and rises in a stop.
-fn high_turn(
-    link: Option<BytePart>,
-    clock: Option<bool>,
-    before: bool,
-    after: bool,
-) -> Turn<WireBits>
-    ensures { result ≡ high_turn link clock before after }
-{
-    if level::falls(before, after) {
-        return start_turn(link);
-    }
-    if level::rises(before, after) {
-        return stop_turn(link);
-    }
-    turned(link, clock, Out::Nothing)
-}
-
 impl WireBits {
     // No start is open.
     pub fn none() -> WireBits
@@ -127,21 +59,82 @@ impl WireBits {
         }
     }
 
+    // A start: the clock that is high is no bit.
+    fn start(self) -> Turn<WireBits>
+        ensures { result ≡ start_turn self.link }
+    {
+        let out = match self.link {
+            None => Out::One(Event::Eeprom(EepromEvent::Start)),
+            Some(part) => part.then(EepromEvent::Start),
+        };
+        turned(Some(BytePart::none()), None, out)
+    }
+
+    // With no start open a stop is passed over.
+    fn stop(self) -> Turn<WireBits>
+        ensures { result ≡ stop_turn self.link }
+    {
+        let out = match self.link {
+            None => Out::Nothing,
+            Some(part) => part.then(EepromEvent::Stop),
+        };
+        turned(None, None, out)
+    }
+
+    // The ninth bit is the acknowledge; with no start open a clock is passed over.
+    fn bit(self, level: bool) -> Turn<WireBits>
+        ensures { result ≡ bit_turn self.link level }
+    {
+        let Some(part) = self.link else {
+            return turned(None, None, Out::Nothing);
+        };
+        if part.count < 8 {
+            let more = BytePart {
+                count: part.count + 1,
+                value: crate::push_bit(part.value, level),
+            };
+            return turned(Some(more), None, Out::Nothing);
+        }
+        let byte = Event::Eeprom(EepromEvent::Byte(part.value, level));
+        turned(Some(BytePart::none()), None, Out::One(byte))
+    }
+
+    // SCL falls: its bit counts.
+    fn fall(self) -> Turn<WireBits>
+        ensures { result ≡ fall_turn self.link self.clock }
+    {
+        match self.clock {
+            None => turned(self.link, None, Out::Nothing),
+            Some(level) => self.bit(level),
+        }
+    }
+
+    // SCL stays high: SDA falls in a start and rises in a stop.
+    fn high(self, before: bool, after: bool) -> Turn<WireBits>
+        ensures { result ≡ high_turn self.link self.clock before after }
+    {
+        if level::falls(before, after) {
+            return self.start();
+        }
+        if level::rises(before, after) {
+            return self.stop();
+        }
+        turned(self.link, self.clock, Out::Nothing)
+    }
+
     // From one line of the capture to the next.
     pub fn turn(self, before: Wires, after: Wires) -> Turn<WireBits>
         ensures { result ≡ wire_turn self before after }
     {
-        let link = self.link;
-        let clock = self.clock;
         if level::falls(before.scl, after.scl) {
-            return fall_turn(link, clock);
+            return self.fall();
         }
         if level::rises(before.scl, after.scl) {
-            return turned(link, Some(after.sda), Out::Nothing);
+            return turned(self.link, Some(after.sda), Out::Nothing);
         }
         if after.scl {
-            return high_turn(link, clock, before.sda, after.sda);
+            return self.high(before.sda, after.sda);
         }
-        turned(link, clock, Out::Nothing)
+        turned(self.link, self.clock, Out::Nothing)
     }
 }
