@@ -18,7 +18,8 @@ use Rattle.record.specs.declared.Board.{Board}
 use Rattle.record.specs.declared.Record.{Record}
 use Rattle.record.specs.Answers.{answer_number, levels_answer_number}
 use Rattle.record.specs.Lengths.{result_length}
-use Rattle.line.specs.declared.output.Written.{Written}
+use Rattle.std.specs.Prelude.{Result, Ok, Err}
+use Rattle.line.specs.declared.output.WriteError.{WriteError}
 use Rattle.line.specs.Boards.{spelled_board, WroteBoard}
 use Rattle.line.proofs.OutputLaws.{board_length}
 use Rattle.text.specs.Texts.{text_limit, spelled_all, spelled_trace}
@@ -27,8 +28,8 @@ use Rattle.buffers.specs.Buffers.{result_after}
 use Rattle.capture.specs.Merge.{Judgement, refused, merged, Judges}
 use Rattle.capture.specs.Merge as judged
 use Rattle.capture.proofs.OneJudgement.{one_judgement}
-use Rattle.judge.specs.declared.Judged.{Judged}
-use Rattle.judge.specs.Judging.{Judging}
+use Rattle.judge.specs.declared.JudgeAnswer.{JudgeAnswer}
+use Rattle.judge.specs.Judging.{judge_number, Judged, judged_refused, judged_both, Judging}
 use Rattle.judge.proofs.Usable.{Usable, refused_by, both_by}
 use Rattle.weave.specs.declared.Weave.{Weave}
 use Rattle.weave.specs.Weaving.{Starts}
@@ -37,7 +38,7 @@ use Rattle.merged.specs.Merging.{longest_text, Outputs, outputs_of, Wrote, wrote
 use Rattle.merged.specs.Writing.{board_line, put_at, CountsLevels, CountsTaken, HasRoom, WritesAll, WritesText}
 use Rattle.merged.proofs.Room.{trace_length, text_fits}
 use Rattle.merged.proofs.CountLaws.{merged_length}
-use Rattle.merged.proofs.LineLaws.{wrote_length, not_short, not_out, wrote_content}
+use Rattle.merged.proofs.LineLaws.{wrote_length, not_refused, wrote_content}
 
 room : (b : Board) (m : List Record) (old : List ℕ) → length (spelled_trace b m) ≤ length old → length (spelled_board b) ≤ length old
 room b m old h = omega (arith, trace_length b m, board_length b)
@@ -49,14 +50,11 @@ joined u v old =
     ∙ sym (append_assoc u v (drop (length (u ++ v)) old))
 
 -- ---- the board's line, then the others
-module _ {w : Weave} {b : Board} {old mid : List ℕ} {r : Written} (d : WroteBoard b old mid r) where
-  pub text_out : {n : ℕ} → r ≡ Written.OutOfRange → WritesText w b old mid n
-  text_out e = record { writes = λ m o l n h. absurd (not_out (d.in_range o) (room b m old h) e) }
+module _ {w : Weave} {b : Board} {old mid : List ℕ} {r : Result ℕ WriteError} (d : WroteBoard b old mid r) where
+  pub text_refused : (e : WriteError) {n : ℕ} → r ≡ Err e → WritesText w b old mid n
+  text_refused e h = record { writes = λ m o l n f. absurd (not_refused (d.in_range o) e (room b m old f) h) }
 
-  pub text_short : {n : ℕ} → r ≡ Written.TooShort → WritesText w b old mid n
-  text_short e = record { writes = λ m o l n h. absurd (not_short (d.in_range o) (room b m old h) e) }
-
-  pub text_all : {n k : ℕ} {new : List ℕ} → r ≡ Written.Length n → WritesAll w n mid new k → WritesText w b old new k
+  pub text_all : {n k : ℕ} {new : List ℕ} → r ≡ Ok n → WritesAll w n mid new k → WritesText w b old new k
   unfolding spelled_trace
   text_all {n} {k} {new} e v = record {
     writes = λ m o l c h.
@@ -118,11 +116,11 @@ module _ {levels trace : List ℕ} {b : Board} {first : ℕ} {a : Level} {at : �
 within : {levels trace : List ℕ} {b : Board} {m : List Record} → Judges levels trace (merged b m) → (length levels ≤ text_limit) × (length trace ≤ text_limit)
 within {levels} {trace} (judged.both b rs ls m t q s c p) = (ltb-false text_limit (length levels) s, ltb-false text_limit (length trace) t)
 
-pub both_within : {levels trace : List ℕ} {j : Judged} {b : Board} {first : ℕ} {a : Level} {at : ℕ} → Judging levels trace j → j ≡ Judged.Both b first a at → (length levels ≤ text_limit) × (length trace ≤ text_limit)
+pub both_within : {levels trace : List ℕ} {j : Judged} {b : Board} {first : ℕ} {a : Level} {at : ℕ} → Judging levels trace j → j ≡ judged_both b first a at → (length levels ≤ text_limit) × (length trace ≤ text_limit)
 both_within {b = b} {first = first} {a = a} {at = at} g d = within (both_by g b first a at d).judges
 
 -- the text's length has room in the result
-pub length_small : {levels trace out out' : List ℕ} {j : Judged} {b : Board} {first : ℕ} {a : Level} {at : ℕ} {w : Weave} {t : Bool} {c : ℕ} → Judging levels trace j → j ≡ Judged.Both b first a at →
+pub length_small : {levels trace out out' : List ℕ} {j : Judged} {b : Board} {first : ℕ} {a : Level} {at : ℕ} {w : Weave} {t : Bool} {c : ℕ} → Judging levels trace j → j ≡ judged_both b first a at →
     HasRoom levels trace a at first (length out) t → not t ≡ false → Starts levels trace a at first w → WritesText w b out out' c → c ≤ longest_text
 length_small {b = b} {first = first} {a = a} {at = at} g d v h s p = let u = both_by g b first a at d in omega (arith, (wrote u s v h p).0, text_fits u.judges)
 
@@ -147,11 +145,12 @@ module _ {levels trace out old new : List ℕ} {n : ℕ} where
   }
 
   module _ (fit : length old ≡ result_length) {j : Judged} (g : Judging levels trace j) where
-    pub merge_refused : {a k f : ℕ} → j ≡ Judged.Refused a k f → (n ≡ a) × (new ≡ result_after a k 0 f old) → Merges levels trace (outputs_of out old) (wrote_as n (outputs_of out new))
+    pub merge_refused : {a : JudgeAnswer} {k f i : ℕ} → j ≡ judged_refused a k f → i ≡ judge_number a → (n ≡ i) × (new ≡ result_after i k 0 f old) → Merges levels trace (outputs_of out old) (wrote_as n (outputs_of out new))
     unfolding merge_left
-    merge_refused {a} {k} {f} d q = settle (refused a k f) (eq-eqb (length old) result_length fit) (refused_by g a k f d) (refusal out old a k f q)
+    merge_refused {a} {k} {f} {i} d e q =
+        settle (refused (judge_number a) k f) (eq-eqb (length old) result_length fit) (refused_by g a k f d) (refusal out old i k f q ∙ ap (λ (b : ℕ). unwritten b k f (outputs_of out old)) e)
 
-    module _ {b : Board} {first : ℕ} {a : Level} {at : ℕ} {t : Bool} (d : j ≡ Judged.Both b first a at) (v : HasRoom levels trace a at first (length out) t) where
+    module _ {b : Board} {first : ℕ} {a : Level} {at : ℕ} {t : Bool} (d : j ≡ judged_both b first a at) (v : HasRoom levels trace a at first (length out) t) where
       pub merge_short : {i : ℕ} → not t ≡ true → i ≡ levels_answer_number TooShort → (n ≡ i) × (new ≡ result_after i 0 0 0 old) → Merges levels trace (outputs_of out old) (wrote_as n (outputs_of out new))
       merge_short {i} h e q =
           let u = both_by g b first a at d in

@@ -18,7 +18,7 @@ use Rattle.level.specs.Spelled.{spelled_level, LevelOk}
 use Rattle.decode.specs.declared.Out.{Out}
 use Rattle.decode.specs.declared.Out.TheVariants.{Nothing, One, Two}
 use Rattle.decode.specs.declared.bits.Bits.{Bits}
-use Rattle.decode.specs.declared.bits.Turn.{Turn}
+use Rattle.decode.specs.declared.Turn.{Turn}
 use Rattle.decode.specs.Bits.{events_of}
 use Rattle.decode.specs.Decoded.{turn_of, record_at, records_at, decoded_from, flash_start, wires_start}
 use Rattle.capture.specs.Taken.{taken, taken_of}
@@ -59,7 +59,7 @@ module _ (t : ℕ) where
 abbrev given : Bits → Level → List Level → ℕ
 given s a ls = length (spelled_all (decoded_from s a ls))
 
-given_next : (s : Bits) (a b : Level) (ls : List Level) {t : Turn} {n : ℕ} → t ≡ turn_of s a b → n ≡ length (spelled_all (records_at b.stamp (events_of t.out))) →
+given_next : (s : Bits) (a b : Level) (ls : List Level) {t : Turn Bits} {n : ℕ} → t ≡ turn_of s a b → n ≡ length (spelled_all (records_at b.stamp (events_of t.out))) →
     given s a (b ∷ ls) ≡ n + given t.bits b ls
 unfolding decoded_from
 given_next s a b ls e h = rw (h, e) (all_lengths (records_at b.stamp (events_of (turn_of s a b).out)) (decoded_from (turn_of s a b).bits b ls))
@@ -84,9 +84,9 @@ module _ {text : List ℕ} {a : Level} {from at : ℕ} {last : Level} {flash wir
         omega (arith, z.2, ap (given flash last) e, ap (given wires last) e);
   }
 
-  pub levels_next : {l : Level} {p : ℕ} {f w : Turn} {n k : ℕ} → Got spelled_level LevelOk text at l p → f ≡ turn_of flash last l → w ≡ turn_of wires last l →
+  pub levels_next : {l : Level} {p : ℕ} {f w : Turn Bits} {n k : ℕ} → Got spelled_level LevelOk text at l p → f ≡ turn_of flash last l → w ≡ turn_of wires last l →
       n ≡ length (spelled_all (records_at l.stamp (events_of f.out))) → k ≡ length (spelled_all (records_at l.stamp (events_of w.out))) →
-      CountingLevels text a from p l f.bits w.bits (sum + n + k)
+      CountingLevels text a from p l f.bits w.bits (sum + (n + k))
   unfolding levels
   levels_next {l = l} g e h i j = record {
     counting = λ ls q.

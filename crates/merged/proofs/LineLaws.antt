@@ -1,35 +1,30 @@
 -- One line at a place of the output.
-use Prim.Native.Nat.{ℕ, ◌+◌, ◌-◌, ◌≤◌, ◌<◌}
+use Prim.Native.Nat.{ℕ, ◌+◌, ◌≤◌}
 use native.Mathlib.Omega.{arith}
 use native.Mathlib.Nat.{add_assoc}
 use mathlib.Core.Path.{◌≡◌, sym, ap, ap₂, ◌∙◌}
 use mathlib.Core.Bool.{Bool}
-use mathlib.Core.List.{List, [], ◌++◌, append_assoc, append-nil}
-use lib.Dec.{ltb}
-use lib.ListN.{length, take, drop, length-append, length-drop, drop_of_length-le}
-use lib.Seq.{drop-drop, take-append_seam, drop-append-add, length-take-le, take_all}
-use borrow.Author.Tests.{le-ltb, ltb-false}
+use mathlib.Core.List.{List, ◌++◌, append_assoc}
+use lib.ListN.{length, take, drop, length-append}
+use lib.Seq.{drop-drop, take-append_seam, drop-append-add, length-take-le}
+use borrow.Author.Tests.{le-ltb}
 use Rattle.law.specs.Words.{pick}
-use Rattle.law.specs.Choice.{split}
-use Rattle.record.specs.declared.Record.{Record}
-use Rattle.line.specs.declared.output.Written.{Written}
+use Rattle.std.specs.Prelude.{Result, Ok, Err}
+use Rattle.line.specs.declared.output.WriteError.{WriteError}
 use Rattle.line.specs.Output.{on_paper, Wrote}
-use Rattle.line.specs.Records.{spelled}
-use Rattle.merged.specs.Writing.{put_at, WritesLine}
+use Rattle.merged.specs.Writing.{put_at}
 
 -- what a writer says where there is room, and where there is not
-module _ {w old new : List ℕ} {r : Written} (d : Wrote w old new r) where
+module _ {w old new : List ℕ} {r : Result ℕ WriteError} (d : Wrote w old new r) where
   room_answer : length w ≤ length old → on_paper r ≡ (0, length w)
   room_answer h = d.answer ∙ ap (λ (t : Bool). pick t (10, 0) (0, length w)) (le-ltb (length old) (length w) h)
 
-  pub wrote_length : {n : ℕ} → length w ≤ length old → r ≡ Written.Length n → n ≡ length w
+  pub wrote_length : {n : ℕ} → length w ≤ length old → r ≡ Ok n → n ≡ length w
   wrote_length {n} h e = ap (λ (x : ℕ × ℕ). x.1) (ap on_paper (sym e) ∙ room_answer h)
 
-  pub not_short : length w ≤ length old → r ≡ Written.TooShort → ⊥
-  not_short h e = let z : ◌≡◌ {A = ℕ} 10 0 = ap (λ (x : ℕ × ℕ). x.0) (ap on_paper (sym e) ∙ room_answer h) in omega arith
-
-  pub not_out : length w ≤ length old → r ≡ Written.OutOfRange → ⊥
-  not_out h e = let z : ◌≡◌ {A = ℕ} 9 0 = ap (λ (x : ℕ × ℕ). x.0) (ap on_paper (sym e) ∙ room_answer h) in omega arith
+  pub not_refused : (e : WriteError) → length w ≤ length old → r ≡ Err e → ⊥
+  not_refused WriteError.OutOfRange h e = let z : ◌≡◌ {A = ℕ} 9 0 = ap (λ (x : ℕ × ℕ). x.0) (ap on_paper (sym e) ∙ room_answer h) in omega arith
+  not_refused WriteError.TooShort h e = let z : ◌≡◌ {A = ℕ} 10 0 = ap (λ (x : ℕ × ℕ). x.0) (ap on_paper (sym e) ∙ room_answer h) in omega arith
 
   pub wrote_content : length w ≤ length old → new ≡ w ++ drop (length w) old
   wrote_content h = d.content ∙ ap (λ (t : Bool). pick t old (w ++ drop (length w) old)) (le-ltb (length old) (length w) h)
@@ -60,44 +55,3 @@ put_put at u v old h =
         ap₂ (λ (n : ℕ) (l : List ℕ). drop (n + length v) l) (sym long) whole ∙ drop-append-add (take at old ++ u) (drop (at + length u) old) (length v)
         ∙ drop-drop (length v) (at + length u) old
         ∙ ap (λ (n : ℕ). drop n old) (add_assoc at (length u) (length v))
-
--- ---- a line at a place that is not within the output
-pub line_beyond : (x : Record) (at : ℕ) (old : List ℕ) → length old < at → WritesLine x at old old at
-line_beyond x at old h = record { writes = λ k. absurd (omega arith) }
-
--- ---- a line at a place within the output: the part behind the place is lent
-module _ (x : Record) (at : ℕ) (old ys : List ℕ) {r : Written} (h : at ≤ length old) (d : Wrote (spelled x) (take (length old - at) (drop at old)) ys r) where
-  part_is : take (length old - at) (drop at old) ≡ drop at old
-  part_is = take_all (length old - at) (drop at old) (omega (arith, length-drop at old))
-
-  part_room : at + length (spelled x) ≤ length old → length (spelled x) ≤ length (take (length old - at) (drop at old))
-  part_room k = omega (arith, ap length part_is, length-drop at old)
-
-  pub part_short : (n : ℕ) (new : List ℕ) → r ≡ Written.TooShort → WritesLine x at old new n
-  part_short n new e = record { writes = λ k. absurd (not_short d (part_room k) e) }
-
-  pub part_out : (n : ℕ) (new : List ℕ) → r ≡ Written.OutOfRange → WritesLine x at old new n
-  part_out n new e = record { writes = λ k. absurd (not_out d (part_room k) e) }
-
-  nothing_behind : drop (length old - at) (drop at old) ≡ []
-  nothing_behind = drop_of_length-le (drop at old) {i = length old - at} (omega (arith, length-drop at old))
-
-  pub part_written : {n : ℕ} → r ≡ Written.Length n → WritesLine x at old (take at old ++ (ys ++ drop (length old - at) (drop at old))) (at + n)
-  part_written {n} e = record {
-    writes = λ k.
-        let m = wrote_length d (part_room k) e in
-        let c : ys ≡ spelled x ++ drop (length (spelled x)) (drop at old) = wrote_content d (part_room k) ∙ ap (λ (l : List ℕ). spelled x ++ drop (length (spelled x)) l) part_is in (
-          ap (λ (i : ℕ). at + i) m,
-          ap (λ (l : List ℕ). take at old ++ (ys ++ l)) nothing_behind ∙ ap (λ (l : List ℕ). take at old ++ l) (append-nil ys) ∙ part_put at (spelled x) old ys c,
-        );
-  }
-
-  -- what was written fits
-  pub part_fits : {n : ℕ} → r ≡ Written.Length n → at + n ≤ length old
-  part_fits {n} e =
-      split (ltb (length (take (length old - at) (drop at old))) (length (spelled x)))
-      (λ t. absurd (let z : ◌≡◌ {A = ℕ} 0 10 = ap (λ (q : ℕ × ℕ). q.0) (ap on_paper (sym e) ∙ d.answer ∙ ap (λ (u : Bool). pick u (10, 0) (0, length (spelled x))) t) in omega arith))
-      (λ t.
-      let z : n ≡ length (spelled x) = ap (λ (q : ℕ × ℕ). q.1) (ap on_paper (sym e) ∙ d.answer ∙ ap (λ (u : Bool). pick u (10, 0) (0, length (spelled x))) t) in
-      let k = ltb-false (length (take (length old - at) (drop at old))) (length (spelled x)) t in
-      omega (arith, ap length part_is, length-drop at old))

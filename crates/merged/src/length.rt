@@ -10,8 +10,7 @@ ghost use Rattle.merged.specs.Writing.{longest, CountsLevels, CountsTaken};
 
 use decode::{Bits, Out};
 use field::Cursor;
-use level::{Level, ReadLevel};
-use line::ReadRecord;
+use level::Level;
 use record::{EepromEvent, Event, FlashEvent, LineEvent, Record};
 
 // A tab's length.
@@ -27,52 +26,25 @@ fn digits(value: u32) -> usize
     1 + value.ilog10() as usize
 }
 
-// From the channel's letter to the LF: letter and tab, then a word of three letters and the LF, or the byte's word and both bytes.
-fn flash_length(e: FlashEvent) -> usize
-    ensures { result ≡ length (spelled_event (Event.Flash e)) }
-{
-    match e {
-        FlashEvent::Select => 6,
-        FlashEvent::Byte(_, _) => 10,
-        FlashEvent::Cut => 6,
-        FlashEvent::Deselect => 6,
-        FlashEvent::End => 6,
-    }
-}
-
-// The same, where a byte has its acknowledge bit beside it.
-fn eeprom_length(e: EepromEvent) -> usize
-    ensures { result ≡ length (spelled_event (Event.Eeprom e)) }
-{
-    match e {
-        EepromEvent::Start => 6,
-        EepromEvent::Byte(_, _) => 9,
-        EepromEvent::Cut => 6,
-        EepromEvent::Stop => 6,
-        EepromEvent::End => 6,
-    }
-}
-
-// The same, with words of two, three and four letters.
-fn wire_length(e: LineEvent) -> usize
-    ensures { result ≡ length (spelled_event (Event.Line e)) }
-{
-    match e {
-        LineEvent::SupplyOn => 5,
-        LineEvent::SupplyOff => 6,
-        LineEvent::LockOn => 7,
-        LineEvent::LockOff => 7,
-    }
-}
-
-// The rest of the line after the stamp and its tab.
+// The rest of the line after the stamp and its tab: the channel's letter and a tab, then a word of two to four letters and the LF, or a byte's word, the byte and what goes with it.
+#[tactic(auto, unfolding(line::specs::Records::spelled_event, line::specs::ChannelF::spelled_flash, line::specs::ChannelE::spelled_eeprom, line::specs::ChannelL::spelled_line, field::specs::Hex::hex_field))]
 fn event_length(event: Event) -> usize
     ensures { result ≡ length (spelled_event event) }
 {
     match event {
-        Event::Flash(e) => flash_length(e),
-        Event::Eeprom(e) => eeprom_length(e),
-        Event::Line(e) => wire_length(e),
+        Event::Flash(e) => match e {
+            FlashEvent::Byte(_, _) => 10,
+            FlashEvent::Select | FlashEvent::Cut | FlashEvent::Deselect | FlashEvent::End => 6,
+        },
+        Event::Eeprom(e) => match e {
+            EepromEvent::Byte(_, _) => 9,
+            EepromEvent::Start | EepromEvent::Cut | EepromEvent::Stop | EepromEvent::End => 6,
+        },
+        Event::Line(e) => match e {
+            LineEvent::SupplyOn => 5,
+            LineEvent::SupplyOff => 6,
+            LineEvent::LockOn | LineEvent::LockOff => 7,
+        },
     }
 }
 
@@ -80,8 +52,7 @@ fn event_length(event: Event) -> usize
 fn line_length(rec: Record) -> usize
     ensures { (result ≡ length (spelled rec)) × (result ≤ longest) }
 {
-    let event = rec.event;
-    digits(rec.stamp) + TAB + event_length(event)
+    digits(rec.stamp) + TAB + event_length(rec.event)
 }
 
 // The lines of what is given at a stamp.
@@ -92,8 +63,7 @@ fn out_length(stamp: u32, out: Out) -> usize
         Out::Nothing => 0,
         Out::One(e) => line_length(Record { stamp, event: e }),
         Out::Two(d, e) => {
-            let n = line_length(Record { stamp, event: d });
-            n + line_length(Record { stamp, event: e })
+            line_length(Record { stamp, event: d }) + line_length(Record { stamp, event: e })
         }
     }
 }
@@ -109,22 +79,16 @@ pub(crate) fn levels_length(levels: &[u8], a: Level, from: usize) -> usize
     let mut wires = Bits::of_wires();
     let mut sum: usize = 0;
     while at < levels.len() {
-        let ReadLevel::Value(l, next) = level::read_level(levels, Cursor { at }) else {
+        let Some((l, next)) = level::read_level(levels, Cursor { at }) else {
             return sum;
         };
         let of_flash = flash.turn(last, l);
-        let flash_bits = of_flash.bits;
-        let flash_out = of_flash.out;
         let of_wires = wires.turn(last, l);
-        let wires_bits = of_wires.bits;
-        let wires_out = of_wires.out;
-        let n = out_length(l.stamp, flash_out);
-        let m = out_length(l.stamp, wires_out);
-        sum = sum + n + m;
+        sum += out_length(l.stamp, of_flash.out) + out_length(l.stamp, of_wires.out);
         at = next.at;
         last = l;
-        flash = flash_bits;
-        wires = wires_bits;
+        flash = of_flash.bits;
+        wires = of_wires.bits;
     }
     sum
 }
@@ -137,14 +101,11 @@ pub(crate) fn taken_length(trace: &[u8], from: usize) -> usize
     let mut at = from;
     let mut sum: usize = 0;
     while at < trace.len() {
-        let ReadRecord::Value(rec, next) = text::record_at(trace, at) else {
+        let Ok((rec, next)) = text::record_at(trace, at) else {
             return sum;
         };
-        let event = rec.event;
-        if capture::is_taken(event) {
+        if capture::is_taken(rec.event) {
             sum += next.at - at;
-            at = next.at;
-            continue;
         }
         at = next.at;
     }

@@ -6,9 +6,7 @@ ghost use Rattle.text.specs.Texts.{text_limit};
 ghost use Rattle.merged.specs.Merging.{outputs_of, wrote_as, Merges};
 ghost use Rattle.merged.specs.Writing.{HasRoom, WritesLine, WritesAll, WritesText};
 
-use judge::Judged;
 use level::Level;
-use line::Written;
 use record::{Answer, Board, LevelsAnswer, Record};
 use weave::Weave;
 
@@ -40,10 +38,7 @@ fn write_line(rec: Record, output: &mut [u8], at: usize) -> usize
     if output.len() < at {
         return at;
     }
-    match line::write_record(rec, &mut output[at..]) {
-        Written::OutOfRange | Written::TooShort => at,
-        Written::Length(n) => at + n,
-    }
+    at + line::write_record(rec, &mut output[at..]).unwrap_or(0)
 }
 
 // The lines of all records that are left, and the place after the last.
@@ -61,10 +56,10 @@ fn write_all(left: Weave<'_>, from: usize, output: &mut [u8]) -> usize
 fn write_text(left: Weave<'_>, board: Board, output: &mut [u8]) -> usize
     ensures { WritesText left.entry board output.old output.new result }
 {
-    match line::write_board(board, output) {
-        Written::OutOfRange | Written::TooShort => 0,
-        Written::Length(n) => write_all(left, n, output),
-    }
+    let Ok(n) = line::write_board(board, output) else {
+        return 0;
+    };
+    write_all(left, n, output)
 }
 
 // Refusal 1, then both texts are judged, then 10, then the text is written.
@@ -72,32 +67,16 @@ pub fn merge(levels: &[u8], trace: &[u8], output: &mut [u8], res: &mut [u8]) -> 
     ensures { Merges levels.now trace.now (outputs_of output.old res.old) (wrote_as result (outputs_of output.new res.new)) }
 {
     if res.len() != record::RESULT {
-        return buffers::put_answer(res, record::answer_number(Answer::BadBuffers), 0, 0, 0);
+        return buffers::put_answer(res, Answer::BadBuffers.into(), 0, 0, 0);
     }
-    let judged = judge::judge(levels, trace);
-    match judged {
-        Judged::Refused(answer, line, field) => {
-            return buffers::put_answer(res, answer, line, 0, field);
-        }
-        Judged::Both(board, first, a, at) => {
-            if !has_room(levels, trace, a, at, first, output.len()) {
-                return buffers::put_answer(
-                    res,
-                    record::levels_answer_number(LevelsAnswer::TooShort),
-                    0,
-                    0,
-                    0,
-                );
-            }
-            let all = Weave::new(levels, trace, a, at, first);
-            let length = write_text(all, board, output);
-            return buffers::put_answer(
-                res,
-                record::answer_number(Answer::Settled),
-                0,
-                length as u32,
-                0,
-            );
-        }
+    let both = match judge::judge(levels, trace) {
+        Ok(both) => both,
+        Err(no) => return buffers::put_answer(res, no.answer.into(), no.line, 0, no.field),
+    };
+    if !has_room(levels, trace, both.level, both.at, both.first, output.len()) {
+        return buffers::put_answer(res, LevelsAnswer::TooShort.into(), 0, 0, 0);
     }
+    let all = Weave::new(levels, trace, both.level, both.at, both.first);
+    let length = write_text(all, both.board, output);
+    buffers::put_answer(res, Answer::Settled.into(), 0, length as u32, 0)
 }

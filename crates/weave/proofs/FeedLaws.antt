@@ -27,27 +27,17 @@ use Rattle.weave.specs.declared.feed.Within.{Within}
 use Rattle.weave.specs.Weaving.{head_number, number_ahead}
 use Rattle.weave.specs.Feeding.{LevelFeed, TraceFeed, behind_of, within_of, give_by, give_of, LevelsLeft, TraceLeft, letter_of, Passes, in_levels, in_trace, level_feed, trace_feed, PlaceLeft, Gives, done, next, FeedsLevels, FeedsTrace, Feeds}
 
-none_some : {A B : Type 0} {x : A} → None ≡ Some x → B
-none_some h = absurd (cc)
-
 -- ---- the capture
 module _ (text : List ℕ) (at : ℕ) (l : Level) (s : Bits) where
-  given : (o : Out) (x : Record) (p : Behind) (trace : List ℕ) (xs : List Record) → give_by at l s o ≡ Some (x, p) → LevelsLeft text (behind_of at l s o) xs → Gives text trace (level_feed (Some (x, p))) xs
+  given : (o : Out) (trace : List ℕ) (xs : List Record) → (o ≡ Nothing → ⊥) → LevelsLeft text (behind_of at l s o) xs → Gives text trace (level_feed (give_by at l s o)) xs
   unfolding PlaceLeft events_of
-  given Nothing x p trace xs h k = none_some h
-  given (One e) x p trace xs h k =
-      subst (λ (r : LevelFeed). Gives text trace (level_feed r) xs) h
-      (subst (Gives text trace (level_feed (give_by at l s (One e)))) (sym k.is)
-      (next (record_at l.stamp e) (in_levels (behind_of at l s Nothing)) _ (record { ls = k.ls; from = k.from; is = refl })))
-  given (Two d e) x p trace xs h k =
-      subst (λ (r : LevelFeed). Gives text trace (level_feed r) xs) h
-      (subst (Gives text trace (level_feed (give_by at l s (Two d e)))) (sym k.is)
-      (next (record_at l.stamp d) (in_levels (behind_of at l s (One e))) _ (record { ls = k.ls; from = k.from; is = refl })))
-
-  nothing_more : (o : Out) (xs : List Record) → None ≡ give_by at l s o → LevelsLeft text (behind_of at l s o) xs → LevelsLeft text (behind_of at l s Nothing) xs
-  nothing_more Nothing xs h k = k
-  nothing_more (One e) xs h k = none_some h
-  nothing_more (Two d e) xs h k = none_some h
+  given Nothing trace xs h k = absurd (h refl)
+  given (One e) trace xs h k =
+      subst (Gives text trace (level_feed (give_by at l s (One e)))) (sym k.is)
+      (next (record_at l.stamp e) (in_levels (behind_of at l s Nothing)) _ (record { ls = k.ls; from = k.from; is = refl }))
+  given (Two d e) trace xs h k =
+      subst (Gives text trace (level_feed (give_by at l s (Two d e)))) (sym k.is)
+      (next (record_at l.stamp d) (in_levels (behind_of at l s (One e))) _ (record { ls = k.ls; from = k.from; is = refl }))
 
 -- what is still to come at `from` is still to come at `to`
 pub record Still (text : List ℕ) (from to : Behind) : Type 0 where
@@ -58,12 +48,14 @@ pub levels_begin : {text : List ℕ} {from : Behind} → Still text from from
 levels_begin = record { still = λ xs k. k }
 
 module _ {text : List ℕ} {from to : Behind} (still : Still text from to) where
-  pub levels_found : {x : Record} {p : Behind} → Some (x, p) ≡ give_of to → FeedsLevels text from (Some (x, p))
-  levels_found {x} {p} h = record { feeds = λ trace xs k. given text to.at to.last to.bits to.more x p trace xs (sym h) (still.still xs k) }
+  pub levels_found : {r : LevelFeed} → (to.more ≡ Nothing → ⊥) → r ≡ give_of to → FeedsLevels text from r
+  levels_found {r} h e = record {
+    feeds = λ trace xs k. subst (λ (f : LevelFeed). Gives text trace (level_feed f) xs) (sym e) (given text to.at to.last to.bits to.more trace xs h (still.still xs k));
+  }
 
-  module _ (h : None ≡ give_of to) where
+  module _ (h : to.more ≡ Nothing) where
     bare : (xs : List Record) → LevelsLeft text from xs → LevelsLeft text (behind_of to.at to.last to.bits Nothing) xs
-    bare xs k = nothing_more text to.at to.last to.bits to.more xs h (still.still xs k)
+    bare xs k = subst (λ (o : Out). LevelsLeft text (behind_of to.at to.last to.bits o) xs) h (still.still xs k)
 
     pub levels_none : to.at < length text → ((l : Level) → LevelOk l → Stands text to.at (spelled_level l) → ⊥) → FeedsLevels text from None
     unfolding levels

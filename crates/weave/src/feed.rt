@@ -61,10 +61,7 @@ impl Source for Behind {
     // The next record of the capture.
     fn next(self, levels: &[u8]) -> LevelFeed {
         let mut from = self;
-        loop {
-            if let Some(next) = from.give() {
-                return Some(next);
-            }
+        'lines: while let Out::Nothing = from.more {
             if levels.len() <= from.at {
                 return None;
             }
@@ -77,6 +74,7 @@ impl Source for Behind {
                 more: turn.out,
             };
         }
+        from.give()
     }
 }
 

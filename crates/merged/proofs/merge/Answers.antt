@@ -3,27 +3,27 @@ use Rattle.merged.proofs.CallLaws.{merge_unfit, merge_refused, both_within, merg
 use Rattle.merged.proofs.merge.Goals as goal
 
 pub returns-then-res-ne-RESULT : goal.returns-then-res-ne-RESULT
-returns-then-res-ne-RESULT c = merge_unfit c.if-res-ne-RESULT.true c.answer_number.ensures c.put_answer.ensures
+returns-then-res-ne-RESULT c = merge_unfit c.if-res-ne-RESULT.true c.into.ensures c.put_answer.ensures
 
-pub returns-in-Refused : goal.returns-in-Refused
-returns-in-Refused c = merge_refused c.if-res-ne-RESULT.false c.judge-judged.ensures c.in-Refused.is c.put_answer-in-Refused.ensures
+pub returns-in-Err : goal.returns-in-Err
+returns-in-Err c = merge_refused c.if-res-ne-RESULT.false c.judge.ensures c.in-Err.is c.into-in-Err.ensures c.put_answer-in-Err.ensures
 
 pub has_room-requires : goal.has_room-requires
-has_room-requires c = both_within c.judge-judged.ensures c.in-Both.is
+has_room-requires c = both_within c.judge.ensures c.in-Ok.is
 
 pub returns-then-not-has_room : goal.returns-then-not-has_room
 returns-then-not-has_room c =
-    merge_short c.if-res-ne-RESULT.false c.judge-judged.ensures c.in-Both.is c.has_room.ensures (ap not c.if-not-has_room.true) c.levels_answer_number.ensures
+    merge_short c.if-res-ne-RESULT.false c.judge.ensures c.in-Ok.is c.has_room.ensures (ap not c.if-not-has_room.true) c.into-then-not-has_room.ensures
     c.put_answer-then-not-has_room.ensures
 
-pub returns-in-Both : goal.returns-in-Both
-returns-in-Both c =
-    merge_written c.if-res-ne-RESULT.false c.judge-judged.ensures c.in-Both.is c.has_room.ensures (ap not c.if-not-has_room.false) c.new-all.ensures c.write_text-length.ensures
-    c.answer_number-in-Both.ensures c.put_answer-in-Both.ensures
+pub returns : goal.returns
+returns c =
+    merge_written c.if-res-ne-RESULT.false c.judge.ensures c.in-Ok.is c.has_room.ensures (ap not c.if-not-has_room.false) c.new-all.ensures c.write_text-length.ensures
+    c.into-2.ensures c.put_answer-2.ensures
 
 pub overflow_cast-length : goal.overflow_cast-length
 overflow_cast-length c =
     omega (
       arith,
-      length_small c.judge-judged.ensures c.in-Both.is c.has_room.ensures (ap not c.if-not-has_room.false) c.new-all.ensures c.write_text-length.ensures,
+      length_small c.judge.ensures c.in-Ok.is c.has_room.ensures (ap not c.if-not-has_room.false) c.new-all.ensures c.write_text-length.ensures,
     )

@@ -16,20 +16,20 @@ returns-in_default c = (
 )
 
 pub overflow_add-sum : goal.overflow_add-sum
-overflow_add-sum c = omega (arith, c.loop-at.invariant.0, c.loop-at-test.true, c.requires, c.out_length-n.ensures.1, c.out_length-m.ensures.1)
+overflow_add-sum c = omega (arith, c.loop-at.invariant.0, c.loop-at-test.true, c.requires, c.out_length.ensures.1, c.out_length-in-loop-at.ensures.1)
 
 pub loop-at-smaller : goal.loop-at-smaller
 unfolding levels
-loop-at-smaller c = let l = behind some_level (got_one tells_level c.read_level.ensures _ _ c.in-Value.is) in omega arith
+loop-at-smaller c = let l = behind some_level (got_one tells_level c.read_level.ensures _ _ c.in-Some.is) in omega arith
 
 pub loop-at-preserved : goal.loop-at-preserved
 unfolding levels
 loop-at-preserved c =
-    let g = got_one tells_level c.read_level.ensures _ _ c.in-Value.is in
+    let g = got_one tells_level c.read_level.ensures _ _ c.in-Some.is in
     let l = behind some_level g in (
-      omega (arith, c.loop-at.invariant.0, c.out_length-n.ensures.1, c.out_length-m.ensures.1),
-      omega (arith, c.loop-at.invariant.0, c.out_length-n.ensures.1, c.out_length-m.ensures.1),
-      levels_next c.loop-at.invariant.2 g c.turn-of_flash.ensures c.turn-of_wires.ensures c.out_length-n.ensures.0 c.out_length-m.ensures.0,
+      omega (arith, c.loop-at.invariant.0, c.out_length.ensures.1, c.out_length-in-loop-at.ensures.1),
+      omega (arith, c.loop-at.invariant.0, c.out_length.ensures.1, c.out_length-in-loop-at.ensures.1),
+      levels_next c.loop-at.invariant.2 g c.turn-of_flash.ensures c.turn-of_wires.ensures c.out_length.ensures.0 c.out_length-in-loop-at.ensures.0,
     )
 
 pub returns : goal.returns

@@ -10,4 +10,4 @@ returns-in-One c = (one_given _ c.in-One.is c.line_length.ensures.0, omega (arit
 
 pub returns-in-Two : goal.returns-in-Two
 returns-in-Two c =
-    (two_given _ c.in-Two.is c.line_length-n.ensures.0 c.line_length-in-Two.ensures.0, omega (arith, c.line_length-n.ensures.1, c.line_length-in-Two.ensures.1))
+    (two_given _ c.in-Two.is c.line_length-in-Two.ensures.0 c.line_length-in-Two-2.ensures.0, omega (arith, c.line_length-in-Two.ensures.1, c.line_length-in-Two-2.ensures.1))
