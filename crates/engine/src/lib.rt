@@ -3,30 +3,23 @@
 #![tactic(auto)]
 
 ghost use Rattle.std.specs.Prelude.{◌≡◌};
-ghost use Rattle.image.specs.Images.{images_of};
+ghost use Rattle.machine.specs.Lent.{images_in, Keeps};
 ghost use Rattle.engine.specs.Playing.{lent_of, played_as, Plays};
 ghost use Rattle.engine.specs.Straight.{PlaysAll};
 
 use controls::Controls;
-use judge::Judged;
+use machine::LentImages;
 use record::{Answer, Board};
 use weave::Weave;
 
 // All that is left, on the images: no more than the most that both texts can give.
-fn play_all(
-    left: Weave<'_>,
-    board: Board,
-    flash: &mut [u8],
-    flash_mask: &mut [u8],
-    eeprom: &mut [u8],
-    eeprom_mask: &mut [u8],
-)
-    ensures { PlaysAll left.entry board (images_of flash.old flash_mask.old eeprom.old eeprom_mask.old)
-        (images_of flash.new flash_mask.new eeprom.new eeprom_mask.new) }
+fn play_all(left: Weave<'_>, board: Board, images: &mut LentImages<'_>)
+    ensures keeps { Keeps images.old images.new }
+    ensures plays { PlaysAll left.entry board (images_in images.old) (images_in images.new) }
 {
     let mut cur = Controls::start(board);
     for rec in left.take(weave::MOST) {
-        let played = machine::play(board, cur, rec, flash, flash_mask, eeprom, eeprom_mask);
+        let played = machine::play(board, cur, rec, images);
         cur = played.controls;
     }
 }
@@ -46,17 +39,19 @@ pub fn play_levels(
         (played_as result (lent_of flash.new flash_mask.new eeprom.new eeprom_mask.new res.new)) }
 {
     if !buffers::fits_images(flash, flash_mask, eeprom, eeprom_mask, res) {
-        return buffers::put_answer(res, record::answer_number(Answer::BadBuffers), 0, 0, 0);
+        return buffers::put_answer(res, Answer::BadBuffers.into(), 0, 0, 0);
     }
-    let judged = judge::judge(levels, trace);
-    match judged {
-        Judged::Refused(answer, line, field) => {
-            return buffers::put_answer(res, answer, line, 0, field);
-        }
-        Judged::Both(board, first, a, at) => {
-            let all = Weave::new(levels, trace, a, at, first);
-            play_all(all, board, flash, flash_mask, eeprom, eeprom_mask);
-            return buffers::put_answer(res, record::answer_number(Answer::Settled), 0, 0, 0);
-        }
-    }
+    let both = match judge::judge(levels, trace) {
+        Ok(both) => both,
+        Err(no) => return buffers::put_answer(res, no.answer.into(), no.line, 0, no.field),
+    };
+    let all = Weave::new(levels, trace, both.level, both.at, both.first);
+    let mut images = LentImages {
+        flash,
+        flash_mask,
+        eeprom,
+        eeprom_mask,
+    };
+    play_all(all, both.board, &mut images);
+    buffers::put_answer(res, Answer::Settled.into(), 0, 0, 0)
 }

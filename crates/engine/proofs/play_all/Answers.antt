@@ -1,4 +1,4 @@
-use Rattle.std.proofs.Common.{refl, rules}
+use Rattle.std.proofs.Common.{rules}
 use Rattle.engine.proofs.PlayLaws.{ongoing_start, ongoing_end, ongoing_next}
 use Rattle.engine.proofs.play_all.Goals as goal
 
@@ -8,10 +8,7 @@ loop-rec-init c =
     record {
       can = search rules;
       ends = search rules;
-      flash_same = refl;
-      flash_mask_same = refl;
-      eeprom_same = refl;
-      eeprom_mask_same = refl;
+      keeps = search rules;
       ongoing =
           rw c.into_iter-rec-iterator.ensures.into_iter_gives (ongoing_start items.result _ _ _ items.ensures.source items.ensures.count c.start-cur.ensures);
     }
@@ -22,12 +19,9 @@ loop-rec-preserved c =
     record {
       can = search rules;
       ends = search rules;
-      flash_same = search rules;
-      flash_mask_same = search rules;
-      eeprom_same = search rules;
-      eeprom_mask_same = search rules;
-      ongoing = ongoing_next i.ongoing c.next.new.self c.in-Some.ensures.steps c.play-played.ensures;
+      keeps = search rules;
+      ongoing = ongoing_next i.ongoing c.next.new.self c.in-Some.ensures.steps c.play-played.ensures.turns;
     }
 
-pub returns : goal.returns
-returns c = ongoing_end c.loop-rec.invariant.ongoing c.next.new.self c.in-None.ensures.steps
+pub returns-clause-plays : goal.returns-clause-plays
+returns-clause-plays c = ongoing_end c.loop-rec.invariant.ongoing c.next.new.self c.in-None.ensures.steps
