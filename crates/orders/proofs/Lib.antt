@@ -1,5 +1,6 @@
 pub mod Stamp
 pub mod Passing
+pub mod Compared
 pub mod LineStates
 pub mod Lost
 pub mod Verdicts

@@ -1,16 +1,16 @@
 -- A line record that repeats the state of its line does nothing: the orders of a stamp agree with such records where they agree without.
-use mathlib.Core.Path.{◌≡◌, refl, sym, ap, subst, ◌∙◌}
+use mathlib.Core.Path.{◌≡◌, refl, sym, ap, subst₂, ◌∙◌}
 use mathlib.Core.Bool.{Bool, true, false}
 use mathlib.Core.List.{List, [], ◌∷◌, ◌++◌, append_assoc, append-nil}
 use Prim.Native.Nat.{ℕ, ◌+◌, ◌≤◌, ◌<◌}
 use native.Mathlib.Numerals.{add-one}
 use native.Mathlib.Omega.{arith}
-use lib.ListN.{length, take, get_or, set, length-set}
+use lib.ListN.{length, take, drop, get_or, set, length-set}
 use lib.Seq.{take-suc-set}
 use borrow.Author.Tests.{not-true}
 use Rattle.law.specs.Choice.{true_not_false}
 use Rattle.law.specs.Deciding.{Decides, decides_as}
-use Rattle.law.specs.Rest.{rest_cons, rest_nil}
+use Rattle.std.proofs.Common.{drop_of_length-le, drop-cons, length-take-le}
 use Rattle.law.specs.Words.{All, pick}
 use Rattle.record.specs.declared.Board.{Board}
 use Rattle.record.specs.declared.Record.{Record}
@@ -22,9 +22,10 @@ use Rattle.controls.specs.declared.Controls.{Controls}
 use Rattle.controls.specs.Play.{event_moved, moved_of}
 use Rattle.meaning.specs.Meaning.{L, most}
 use Rattle.tied.specs.Orders.{Order, done, bus_first, line_first, after, replies, AnyTwo}
-use Rattle.orders.specs.declared.Tied.{Tied}
+use Rattle.orders.specs.declared.Records.{Records}
+use Rattle.orders.specs.declared.tying.Tied.{Tied}
 use Rattle.orders.specs.declared.Told.{Told}
-use Rattle.orders.specs.Stamp.{played, bus, reply, line, Within, buses_from, lines_from, Settled}
+use Rattle.orders.specs.Stamp.{played, reply, buses_from, lines_from, Settled}
 use Rattle.orders.specs.LineStates.{of_line, OfBus, repeats_of, lines_next, telling, told_with, OnlyTelling}
 
 -- ---- one record: where it leaves the lines, and where it does nothing
@@ -138,43 +139,39 @@ module _ {R : Type 0} (b : Board) (reply : Controls → Record → R) where
         let z = h x.other y.other in
         (sym x.end ∙ z.0 ∙ y.end, sym x.said ∙ z.1 ∙ y.said)
 
-pub within_telling : (h r : Tied) (l : Lines) → OnlyTelling h l r → Within h 0 0 → Within r 0 0
-within_telling h r l k w =
-    record { bus = omega arith; buses = rw (ap (λ (x : Tied). x.bus_count) k.same) w.buses; line = omega arith; lines = k.few }
-
 -- what decides whether the orders without them agree decides it of all
 pub settled_telling : (h r : Tied) (s : Controls) → OnlyTelling h s.lines r → All OfBus (buses_from h 0) → {d : Bool} → Decides d (Settled r s) → Decides d (Settled h s)
 unfolding Settled
 settled_telling h r s k a {d} g =
-    decides_as (rw k.lines at (subst (λ (x : Tied). Decides d (AnyTwo (bus x) (reply x) (line x) (buses_from x 0) (lines_from x 0) s)) k.same g))
+    let b : Decides d (AnyTwo (played h.board) (λ t q. (moved_of h.board t q).reply) (played h.board) (buses_from h 0) (lines_from r 0) s)
+    = subst₂ (λ (x : Board) (y : Records 8). Decides d (AnyTwo (played x) (λ t q. (moved_of x t q).reply) (played x) (drop 0 (take y.count y.records)) (lines_from r 0) s)) k.board k.buses g in
+    decides_as (rw k.lines at b)
     (with_them h.board (reply h) (buses_from h 0) (lines_from h 0) a s) (without h.board (reply h) (buses_from h 0) (lines_from h 0) a s)
 
--- ---- the loop over the line records: those kept, and what is kept of the rest, are what is kept of all
-pub record Retelling (h : Tied) (l : Lines) (t : Told) (i : ℕ) : Type 0 where
-  pub at : i ≤ h.line_count
-  pub few : t.count ≤ i
-  pub long : length t.records ≡ most L
-  pub kept : take t.count t.records ++ telling t.lines (lines_from h i) ≡ telling l (lines_from h 0)
+-- ---- the loop over the line records xs: those kept, and what is kept of the rest, are what is kept of all
+pub record Retelling (xs : List Record) (l : Lines) (t : Told) (i : ℕ) : Type 0 where
+  pub few : t.kept.count ≤ i
+  pub long : length t.kept.records ≡ most L
+  pub kept : take t.kept.count t.kept.records ++ telling t.lines (drop i xs) ≡ telling l xs
 
-pub retelling_starts : (h : Tied) (l : Lines) (rs : List Record) → length rs ≡ most L → Retelling h l (record { records = rs; count = 0; lines = l }) 0
-retelling_starts h l rs e = record { at = omega arith; few = omega arith; long = e; kept = refl }
-
-module _ (h : Tied) (all : h.line_count ≤ length h.lines) (room : h.line_count ≤ most L) (l : Lines) (t : Told) (i : ℕ) (p : Retelling h l t i) where
-  pub retelling_goes : (d : Record) → i < h.line_count → Retelling h l (told_with t (get_or h.lines i d)) (i + 1)
+module _ (h : Tied) (xs : List Record) (is : xs ≡ lines_from h 0) (l : Lines) (t : Told) (i : ℕ) (p : Retelling xs l t i) where
+  pub retelling_goes : (d : Record) → i < length xs → Retelling xs l (told_with t (get_or xs i d)) (i + 1)
   unfolding telling
-  retelling_goes d b = by (repeats_of t.lines (get_or h.lines i d).event) (rw (rest_cons h.lines _ i all d b) at p.kept)
+  retelling_goes d b = by (repeats_of t.lines (get_or xs i d).event) (rw (add-one i) (rw (drop-cons xs i d) at p.kept))
     where
       r : Record
-      r = get_or h.lines i d
+      r = get_or xs i d
 
-      by : (y : Bool) → take t.count t.records ++ pick y (telling t.lines (lines_from h (i + 1))) (r ∷ telling (lines_next t.lines r.event) (lines_from h (i + 1))) ≡ telling l (lines_from h 0) →
-          Retelling h l (pick y t (record { records = set t.records t.count r; count = t.count + 1; lines = lines_next t.lines r.event })) (i + 1)
-      by true e = record { at = omega arith; few = omega (arith, p.few); long = p.long; kept = e }
+      by : (y : Bool) → take t.kept.count t.kept.records ++ pick y (telling t.lines (drop (i + 1) xs)) (r ∷ telling (lines_next t.lines r.event) (drop (i + 1) xs)) ≡ telling l xs →
+          Retelling xs l (pick y t (record { kept = record { records = set t.kept.records t.kept.count r; count = t.kept.count + 1 }; lines = lines_next t.lines r.event })) (i + 1)
+      by true e = record { few = omega (arith, p.few); long = p.long; kept = e }
       by false e =
-          let here : t.count < length t.records = omega (arith, p.few, p.long) in
-          record { at = omega arith; few = omega (arith, p.few); long = simp length-set p.long; kept = rw (add-one t.count, take-suc-set t.records t.count r here, append_assoc) e }
+          let all : length xs ≡ h.lines.count = rw is (length-take-le h.lines.count h.lines.records h.lines_in) in
+          let few : h.lines.count ≤ most L = h.lines_few in
+          let here : t.kept.count < length t.kept.records = omega (arith, p.few, p.long) in
+          record { few = omega (arith, p.few); long = simp length-set p.long; kept = rw (add-one t.kept.count, take-suc-set t.kept.records t.kept.count r here, append_assoc) e }
 
-  pub retelling_ends : h.line_count ≤ i → OnlyTelling h l (record { buses = h.buses; bus_count = h.bus_count; lines = t.records; line_count = t.count; board = h.board })
+  pub retelling_ends : length xs ≤ i → (r : Tied) → r.buses ≡ h.buses → r.board ≡ h.board → r.lines ≡ t.kept → OnlyTelling h l r
   unfolding telling
-  retelling_ends b =
-      record { same = refl; few = omega (arith, p.few, p.at); lines = rw (rest_nil h.lines _ i all b, append-nil) at p.kept }
+  retelling_ends b r e f g =
+      record { buses = e; board = f; lines = ap (λ (x : Records 2). take x.count x.records) g ∙ (rw (drop_of_length-le xs {i = i} b, append-nil, is) at p.kept) }

@@ -1,5 +1,5 @@
 -- Only `off` can lose the flash's status.
-use mathlib.Core.Path.{◌≡◌, refl, subst, ◌∙◌}
+use mathlib.Core.Path.{◌≡◌, refl, ◌∙◌}
 use mathlib.Core.Bool.{false, not}
 use mathlib.Core.List.{List, [], ◌∷◌}
 use Rattle.law.specs.Choice.{of_both, true_not_false}
@@ -14,12 +14,9 @@ use Rattle.flash.specs.declared.Flash.{Flash}
 use Rattle.flash.specs.Step as flash-rules
 use Rattle.controls.specs.declared.Controls.{Controls}
 use Rattle.controls.specs.Play.{event_moved, moved_of, lost_of}
-use Rattle.meaning.specs.Meaning.{F, E}
 use Rattle.tied.specs.Orders.{after_buses, after_lines}
-use Rattle.orders.specs.declared.Held.{Held}
-use Rattle.orders.specs.declared.Tied.{Tied}
+use Rattle.orders.specs.declared.tying.Tied.{Tied}
 use Rattle.orders.specs.Stamp.{played, buses_from, lines_from}
-use Rattle.orders.specs.Verdicts.{tied_of}
 use Rattle.orders.specs.LineStates.{of_line, OfBus}
 use Rattle.orders.specs.Lost.{is_off, NotOff, StatusStays}
 
@@ -53,8 +50,5 @@ module _ (b : Board) where
   lines_keep [] a s = refl
   lines_keep (r ∷ rs) a s = lines_keep rs a.1 (played b s r) ∙ keeps s r a.0
 
-pub all_stay : (b : Board) (h : Held) (t u : Tied) → t ≡ tied_of h F b → u ≡ tied_of h E b → All OfBus (buses_from t 0) → All OfBus (buses_from u 0) → All NotOff (lines_from t 0) → StatusStays b h
-all_stay b h t u p q f e l s =
-    lines_keep b _ (subst (λ (x : Tied). All NotOff (lines_from x 0)) p l) _ ∙
-    buses_keep b _ (subst (λ (x : Tied). All OfBus (buses_from x 0)) q e) _ ∙
-    buses_keep b _ (subst (λ (x : Tied). All OfBus (buses_from x 0)) p f) s
+pub all_stay : (t u : Tied) → All OfBus (buses_from t 0) → All OfBus (buses_from u 0) → All NotOff (lines_from t 0) → StatusStays t u
+all_stay t u f e l s = lines_keep t.board _ l _ ∙ buses_keep u.board _ e _ ∙ buses_keep t.board _ f s

@@ -1,24 +1,17 @@
--- A loop over the first n elements of a list that goes on only where the element has P.
-use Prim.Native.Nat.{ℕ, ◌+◌, ◌≤◌, ◌<◌}
-use mathlib.Core.List.{List}
-use native.Mathlib.Omega.{arith}
-use lib.ListN.{length, take, drop, get_or}
-use Rattle.law.specs.Rest.{rest_cons, rest_nil}
+-- What `all` says of a list, element by element.
+use Rattle.std.specs.Prelude.{Bool, true, false, ◌≡◌, refl, List, [], ◌∷◌, not}
+use Rattle.std.specs.List.{list_all}
+use Rattle.std.proofs.Common.{sym}
+use Rattle.law.specs.Choice.{true_not_false}
 use Rattle.law.specs.Words.{All}
 
--- at its head: where the rest has it, all have
-pub record Passing {A : Type 0} (P : A → Type 0) (xs : List A) (n i : ℕ) : Type 0 where
-  pub at : i ≤ n
-  pub rest : All P (drop i (take n xs)) → All P (take n xs)
-
-pub passing_starts : {A : Type 0} (P : A → Type 0) (xs : List A) (n : ℕ) → Passing P xs n 0
-passing_starts P xs n = record { at = omega arith; rest = λ a. a }
-
-module _ {A : Type 0} (P : A → Type 0) (xs : List A) (n i : ℕ) (all : n ≤ length xs) (p : Passing P xs n i) where
-  pub passing_goes : (d : A) → P (get_or xs i d) → i < n → Passing P xs n (i + 1)
+module _ {A : Type 0} (p : A → Bool) where
+  one_more : (x : A) (xs : List A) (b : Bool) → p x ≡ b → (list_all (λ y. not (p y)) xs ≡ true → All (λ y. p y ≡ false) xs) → list_all (λ y. not (p y)) (x ∷ xs) ≡ true → All (λ y. p y ≡ false) (x ∷ xs)
   unfolding All
-  passing_goes d o l = record { at = omega arith; rest = λ a. p.rest (rw (rest_cons xs n i all d l) (o, a)) }
+  one_more x xs true q f e = absurd (true_not_false (sym (rw q at e)))
+  one_more x xs false q f e = (q, f (rw q at e))
 
-  pub passing_ends : n ≤ i → All P (take n xs)
+  pub all_pass : (xs : List A) → list_all (λ y. not (p y)) xs ≡ true → All (λ y. p y ≡ false) xs
   unfolding All
-  passing_ends l = p.rest (rw (rest_nil xs n i all l) tt)
+  all_pass [] e = tt
+  all_pass (x ∷ xs) e = one_more x xs (p x) refl (all_pass xs) e

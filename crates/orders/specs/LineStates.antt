@@ -1,5 +1,5 @@
 -- The line records that repeat the state of their line do nothing (document 01, 'Supply'), and those that are left without them.
-use Rattle.std.specs.Prelude.{◌≡◌, Bool, true, false, not, List, [], ◌∷◌, ◌+◌, ◌≤◌, set}
+use Rattle.std.specs.Prelude.{◌≡◌, Bool, true, false, not, List, [], ◌∷◌, ◌+◌, set}
 use Rattle.law.specs.Words.{pick}
 use Rattle.record.specs.declared.Record.{Record}
 use Rattle.record.specs.declared.Event.{Event}
@@ -7,9 +7,8 @@ use Rattle.record.specs.declared.Event.TheVariants as event
 use Rattle.record.specs.declared.LineEvent.TheVariants.{SupplyOn, SupplyOff, LockOn, LockOff}
 use Rattle.record.specs.declared.Lines.{Lines}
 use Rattle.record.specs.LineRules.{lines_after}
-use Rattle.meaning.specs.Meaning.{L, most}
 use Rattle.orders.specs.Stamp.{lines_from}
-use Rattle.orders.specs.declared.Tied.{Tied}
+use Rattle.orders.specs.declared.tying.Tied.{Tied}
 use Rattle.orders.specs.declared.Told.{Told}
 
 abbrev pub of_line : Event → Bool
@@ -43,10 +42,10 @@ telling l (r ∷ rs) = pick (repeats_of l r.event) (telling l rs) (r ∷ telling
 abbrev pub told_with : Told → Record → Told
 told_with t r =
     pick (repeats_of t.lines r.event) t
-    (record { records = set t.records t.count r; count = t.count + 1; lines = lines_next t.lines r.event })
+    (record { kept = record { records = set t.kept.records t.kept.count r; count = t.kept.count + 1 }; lines = lines_next t.lines r.event })
 
 -- only the line records are others: those that repeat nothing
 pub record OnlyTelling (h : Tied) (l : Lines) (r : Tied) : Type 0 where
-  pub same : r ≡ record { buses = h.buses; bus_count = h.bus_count; lines = r.lines; line_count = r.line_count; board = h.board }
-  pub few : r.line_count ≤ most L
+  pub buses : r.buses ≡ h.buses
+  pub board : r.board ≡ h.board
   pub lines : lines_from r 0 ≡ telling l (lines_from h 0)

@@ -2,14 +2,13 @@
 use Rattle.std.specs.Prelude.{◌≡◌, ℕ, ◌+◌, ◌≤◌, ◌<◌, List, take, drop}
 use Rattle.record.specs.declared.Record.{Record}
 use Rattle.record.specs.declared.Board.{Board}
+use Rattle.record.specs.declared.Skeleton.{Skeleton}
 use Rattle.controls.specs.declared.Controls.{Controls}
 use Rattle.controls.specs.Play.{moved_of}
-use Rattle.meaning.specs.Meaning.{F, L, most}
 use Rattle.tied.specs.Orders.{Agree, AgreeBus, AnyTwo, after, buses_first, after_buses, said_buses}
 use Rattle.tied.specs.Orders
-use Rattle.orders.specs.declared.Said.{Said}
-use Rattle.orders.specs.declared.Tied.{Tied}
-use Rattle.orders.specs.declared.Outcome.{Outcome}
+use Rattle.orders.specs.declared.tying.Tied.{Tied}
+use Rattle.orders.specs.declared.tying.Outcome.{Outcome}
 
 -- a record, of a bus or of a line, on the controls, and its reply
 abbrev pub played : Board → Controls → Record → Controls
@@ -18,27 +17,25 @@ played b s r = (moved_of b s r).controls
 abbrev pub bus : Tied → Controls → Record → Controls
 bus h s r = (moved_of h.board s r).controls
 
-abbrev pub reply : Tied → Controls → Record → Said
-reply h s r = record { reply = (moved_of h.board s r).reply }
+abbrev pub reply : Tied → Controls → Record → Skeleton
+reply h s r = (moved_of h.board s r).reply
 
 abbrev pub line : Tied → Controls → Record → Controls
 line h s r = (moved_of h.board s r).controls
 
--- the indices are within the counts, and those within the arrays: a bus's has room for the most of F, which is that of E
+-- the indices are within the counts
 pub record Within (h : Tied) (ib il : ℕ) : Type 0 where
-  pub bus : ib ≤ h.bus_count
-  pub buses : h.bus_count ≤ most F
-  pub line : il ≤ h.line_count
-  pub lines : h.line_count ≤ most L
+  pub bus : ib ≤ h.buses.count
+  pub line : il ≤ h.lines.count
 
 abbrev pub buses_from : Tied → ℕ → List Record
-buses_from h i = drop i (take h.bus_count h.buses)
+buses_from h i = drop i (take h.buses.count h.buses.records)
 
 abbrev pub lines_from : Tied → ℕ → List Record
-lines_from h i = drop i (take h.line_count h.lines)
+lines_from h i = drop i (take h.lines.count h.lines.records)
 
-abbrev pub replies_from : Tied → Outcome → ℕ → List Said
-replies_from h w i = drop i (take h.bus_count w.replies)
+abbrev pub replies_from : Tied → Outcome → ℕ → List Skeleton
+replies_from h w i = drop i (take h.buses.count w.replies)
 
 unfoldable pub AgreeFrom : Tied → ℕ → ℕ → Controls → Outcome → Type 0
 AgreeFrom h ib il s w = Agree (bus h) (reply h) (line h) (buses_from h ib) (lines_from h il) s w.controls (replies_from h w ib)
@@ -54,7 +51,7 @@ BusAgrees r h ib il s w =
 
 -- where a bus record is left: every order of what follows it and a line record agrees from these controls
 unfoldable pub Met : Tied → ℕ → ℕ → Controls → Outcome → Type 0
-Met h ib il m w = ib < h.bus_count → AgreeFrom h (ib + 1) (il + 1) m w
+Met h ib il m w = ib < h.buses.count → AgreeFrom h (ib + 1) (il + 1) m w
 
 -- all bus records were played
 pub record BusesPlayed (h : Tied) (s : Controls) (w : Outcome) : Type 0 where

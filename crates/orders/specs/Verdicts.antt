@@ -9,22 +9,22 @@ use Rattle.controls.specs.declared.Controls.{Controls}
 use Rattle.controls.specs.Play.{moved_of, lost_of}
 use Rattle.meaning.specs.Meaning.{Channel, F, E, L, same, most}
 use Rattle.tied.specs.Orders.{AnyTwo, after_buses, after_lines}
-use Rattle.orders.specs.Stamp.{played}
+use Rattle.orders.specs.Stamp.{bus, line, played, buses_from, lines_from}
 use Rattle.orders.specs.declared.Held.{Held}
-use Rattle.orders.specs.declared.Tied.{Tied}
+use Rattle.orders.specs.declared.tying.Tied.{Tied}
 use Rattle.orders.specs.declared.Verdict.{Verdict}
 use Rattle.orders.specs.declared.Verdict.TheVariants.{Crowded, Differ, Lost, Passes}
 
 -- what is held of a channel: how many records, the array that they stand in, and the records
 abbrev pub count_of : Held → Channel → ℕ
-count_of h F = h.flash_count
-count_of h E = h.eeprom_count
-count_of h L = h.line_count
+count_of h F = h.flash.count
+count_of h E = h.eeprom.count
+count_of h L = h.lines.count
 
 abbrev pub array_of : Held → Channel → List Record
-array_of h F = h.flash
-array_of h E = h.eeprom
-array_of h L = h.lines
+array_of h F = h.flash.records
+array_of h E = h.eeprom.records
+array_of h L = h.lines.records
 
 abbrev pub held_of : Held → Channel → List Record
 held_of h c = take (count_of h c) (array_of h c)
@@ -35,10 +35,6 @@ TooMany h = (c : Channel) × (most c < count_of h c)
 
 abbrev pub Few : Held → Type 0
 Few h = (c : Channel) → count_of h c ≤ most c
-
--- a bus's records with the lines'
-abbrev pub tied_of : Held → Channel → Board → Tied
-tied_of h c b = record { buses = array_of h c; bus_count = count_of h c; lines = h.lines; line_count = h.line_count; board = b }
 
 abbrev pub says : Board → Controls → Record → Skeleton
 says b s r = (moved_of b s r).reply
@@ -54,6 +50,11 @@ BusesAgree b rs s = (c : Channel) → same c L ≡ false → OrdersAgree b (rs c
 -- the controls after all records of F, of E and of L
 abbrev pub last_of : Board → Held → Controls → Controls
 last_of b h s = after_lines (played b) (held_of h L) (after_buses (played b) (held_of h E) (after_buses (played b) (held_of h F) s))
+
+-- the same, of F's records and of E's with the lines'
+abbrev pub last_tied : Tied → Tied → Controls → Controls
+last_tied flash eeprom s =
+    after_lines (line flash) (lines_from flash 0) (after_buses (bus eeprom) (buses_from eeprom 0) (after_buses (bus flash) (buses_from flash 0) s))
 
 unfoldable pub Judged : Board → Held → Controls → Verdict → Type 0
 Judged b h s Crowded = TooMany h

@@ -6,7 +6,7 @@ use Rattle.orders.proofs.Verdicts.{settled, differs, is_lost, is_kept}
 use Rattle.orders.proofs.judge.Goals as goal
 
 -- past the three tests
-few : (h : Held) → h.flash_count ≤ most F → h.eeprom_count ≤ most E → h.line_count ≤ most L → Few h
+few : (h : Held) → h.flash.count ≤ most F → h.eeprom.count ≤ most E → h.lines.count ≤ most L → Few h
 few h f e l F = f
 few h f e l E = e
 few h f e l L = l
@@ -24,17 +24,17 @@ unfolding Judged
 returns-then-held-gt-MOST_LINE c = (L, c.if-held-gt-MOST_LINE.true)
 
 pub returns-then-not-agree : goal.returns-then-not-agree
-returns-then-not-agree c = differs _ _ _ (few c.args.held c.if-held-gt-MOST_BUS.false c.if-held-gt-MOST_BUS-2.false c.if-held-gt-MOST_LINE.false) F refl (settled c.args.held F _ _ c.tied_flash.ensures _ c.agree.ensures) (ap not c.if-not-agree.true)
+returns-then-not-agree c = differs _ _ _ (few c.args.held c.if-held-gt-MOST_BUS.false c.if-held-gt-MOST_BUS-2.false c.if-held-gt-MOST_LINE.false) F refl (settled _ _ c.agree.ensures) (ap not c.if-not-agree.true)
 
 pub returns-then-not-agree-2 : goal.returns-then-not-agree-2
-returns-then-not-agree-2 c = differs _ _ _ (few c.args.held c.if-held-gt-MOST_BUS.false c.if-held-gt-MOST_BUS-2.false c.if-held-gt-MOST_LINE.false) E refl (settled c.args.held E _ _ c.tied_eeprom.ensures _ c.agree-2.ensures) (ap not c.if-not-agree-2.true)
+returns-then-not-agree-2 c = differs _ _ _ (few c.args.held c.if-held-gt-MOST_BUS.false c.if-held-gt-MOST_BUS-2.false c.if-held-gt-MOST_LINE.false) E refl (settled _ _ c.agree-2.ensures) (ap not c.if-not-agree-2.true)
 
 pub returns-then-lost_after : goal.returns-then-lost_after
 returns-then-lost_after c =
-    is_lost _ _ _ (few c.args.held c.if-held-gt-MOST_BUS.false c.if-held-gt-MOST_BUS-2.false c.if-held-gt-MOST_LINE.false) (settled c.args.held F _ _ c.tied_flash.ensures _ c.agree.ensures) (ap not c.if-not-agree.false)
-    (settled c.args.held E _ _ c.tied_eeprom.ensures _ c.agree-2.ensures) (ap not c.if-not-agree-2.false) _ c.lost_after.ensures c.if-lost_after.true
+    is_lost _ _ _ (few c.args.held c.if-held-gt-MOST_BUS.false c.if-held-gt-MOST_BUS-2.false c.if-held-gt-MOST_LINE.false) (settled _ _ c.agree.ensures) (ap not c.if-not-agree.false)
+    (settled _ _ c.agree-2.ensures) (ap not c.if-not-agree-2.false) _ c.lost_after.ensures c.if-lost_after.true
 
 pub returns : goal.returns
 returns c =
-    is_kept _ _ _ (few c.args.held c.if-held-gt-MOST_BUS.false c.if-held-gt-MOST_BUS-2.false c.if-held-gt-MOST_LINE.false) (settled c.args.held F _ _ c.tied_flash.ensures _ c.agree.ensures) (ap not c.if-not-agree.false)
-    (settled c.args.held E _ _ c.tied_eeprom.ensures _ c.agree-2.ensures) (ap not c.if-not-agree-2.false) _ c.lost_after.ensures c.if-lost_after.false
+    is_kept _ _ _ (few c.args.held c.if-held-gt-MOST_BUS.false c.if-held-gt-MOST_BUS-2.false c.if-held-gt-MOST_LINE.false) (settled _ _ c.agree.ensures) (ap not c.if-not-agree.false)
+    (settled _ _ c.agree-2.ensures) (ap not c.if-not-agree-2.false) _ c.lost_after.ensures c.if-lost_after.false

@@ -1,9 +1,5 @@
-use Rattle.std.proofs.Common.{◌-◌}
 use Rattle.orders.proofs.Stamp.{Lining}
 use Rattle.orders.proofs.play_lines.Given as goal
 
-abbrev pub invariant-loop-i : goal.invariant-loop-i
-invariant-loop-i l = Lining l.tied l.initial.cur l.cur l.i
-
-abbrev pub decreases-loop-i : goal.decreases-loop-i
-decreases-loop-i l = l.tied.line_count - l.i
+abbrev pub invariant-loop-rec : goal.invariant-loop-rec
+invariant-loop-rec l = Lining l.fn.tied l.rec-items l.initial.cur l.cur l.rec-index
