@@ -17,8 +17,6 @@ use Rattle.record.specs.declared.Skeleton.TheVariants.{Silent, Given, Fetch, Ack
 use Rattle.record.specs.LineRules.{goes_off, lock_comes_on}
 use Rattle.record.specs.Told.{skeleton_kind}
 use Rattle.flash.specs.declared.Flash.{Flash}
-use Rattle.flash.specs.declared.FlashStatus.{FlashStatus}
-use Rattle.flash.specs.declared.FlashStatus.TheVariants.{Lost, Known}
 use Rattle.flash.specs.declared.FlashCycle.{FlashCycle}
 use Rattle.flash.specs.declared.FlashCycle.TheVariants as flash-cycle
 use Rattle.flash.specs.Code.{sector_locked}
@@ -26,8 +24,9 @@ use Rattle.flash.specs.Step as flash-rules
 use Rattle.flash.specs.Told as flash-told
 use Rattle.flash.proofs.Laws.{reach_kept}
 use Rattle.eeprom.specs.declared.Eeprom.{Eeprom}
-use Rattle.eeprom.specs.declared.EepromCycle.{EepromCycle}
-use Rattle.eeprom.specs.declared.EepromCycle.TheVariants as eeprom-cycle
+use Rattle.eeprom.specs.declared.Sent.{Sent}
+use Rattle.std.specs.Prelude.{Option}
+use Rattle.std.specs.declared.option.Option.TheVariants as option
 use Rattle.eeprom.specs.Step as eeprom-rules
 use Rattle.eeprom.specs.Told as eeprom-told
 use Rattle.image.specs.Image.{Image}
@@ -111,16 +110,16 @@ module _ (b : Board) (t : ℕ) where
   erased s page true k = refl
   erased s page false k = refl
 
-  flash_is : (s : Stroke) (c : FlashCycle) (st : FlashStatus) (page : List ℕ) (k : Memory) →
+  flash_is : (s : Stroke) (c : Option FlashCycle) (st : Option ℕ) (page : List ℕ) (k : Memory) →
       memory_on t (program_by s page) (erase_by s) (flash_pages b.sector c st) k ≡ on_cycle (flash_of s b.sector t) (flash-told.runs_in c st page) k
-  flash_is s flash-cycle.None st page k = refl
-  flash_is s (flash-cycle.Program n) st page k = refl
-  flash_is s (flash-cycle.SectorErase n) st page k = erased s page (eqb n b.sector) k
-  flash_is s flash-cycle.ChipErase Lost page k = refl
-  flash_is s flash-cycle.ChipErase (Known x) page k =
+  flash_is s option.None st page k = refl
+  flash_is s (option.Some (flash-cycle.Program n)) st page k = refl
+  flash_is s (option.Some (flash-cycle.SectorErase n)) st page k = erased s page (eqb n b.sector) k
+  flash_is s (option.Some flash-cycle.ChipErase) option.None page k = refl
+  flash_is s (option.Some flash-cycle.ChipErase) (option.Some x) page k =
       erased s page (not (sector_locked x b.sector)) k
       ∙ ap (λ (q : Bool). memory_on t (program_by s []) (erase_by s) (pick (not q) All None) k) (sym (reach_kept x b.sector))
-  flash_is s (flash-cycle.WriteStatus bits) st page k = refl
+  flash_is s (option.Some (flash-cycle.WriteStatus bits)) st page k = refl
 
   flash_runs : (off on : Bool) (f : Flash) → flash-told.runs_of (pick off (flash-rules.supply_off_of f) (pick on (flash-rules.lock_on_of f) f)) ≡ pick off idle (flash-told.runs_of f)
   flash_runs true on f = refl
@@ -139,9 +138,9 @@ module _ (b : Board) (t : ℕ) where
       (flash_runs (goes_off l e) (lock_comes_on l e) f) k
 
   -- ---- the EEPROM
-  eeprom_is : (s : Stroke) (c : EepromCycle) (page : List ℕ) (k : Memory) → memory_on t (store_by s (sent_in c) page) (λ i. i) (eeprom_pages c) k ≡ on_cycle (eeprom_of s t) (eeprom-told.runs_in c page) k
-  eeprom_is s eeprom-cycle.None page k = refl
-  eeprom_is s (eeprom-cycle.Write x) page k = refl
+  eeprom_is : (s : Stroke) (c : Option Sent) (page : List ℕ) (k : Memory) → memory_on t (store_by s (sent_in c) page) (λ i. i) (eeprom_pages c) k ≡ on_cycle (eeprom_of s t) (eeprom-told.runs_in c page) k
+  eeprom_is s option.None page k = refl
+  eeprom_is s (option.Some x) page k = refl
 
   eeprom_runs : (off : Bool) (x : Eeprom) → eeprom-told.runs_of (pick off (eeprom-rules.off_of x) x) ≡ pick off idle (eeprom-told.runs_of x)
   eeprom_runs true x = refl

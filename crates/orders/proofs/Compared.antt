@@ -2,20 +2,17 @@
 use mathlib.Core.Path.{◌≡◌}
 use mathlib.Core.Bool.{Bool, true, false, not}
 use borrow.Author.Tests.{not-true, not-false}
-use Rattle.std.proofs.Common.{rules}
 use Rattle.law.specs.Choice.{via}
 use Rattle.law.specs.Deciding.{Decides}
 use Rattle.record.specs.declared.Skeleton.{Skeleton}
 use Rattle.record.specs.contracts.SkeletonPartialEq.TheImpl as skeleton-eq
+use Rattle.record.proofs.Compared.{skeleton_decides}
 use Rattle.controls.specs.declared.Controls.{Controls}
 use Rattle.controls.specs.contracts.ControlsPartialEq.TheImpl as controls-eq
 use Rattle.controls.proofs.Compared.{controls_decides}
 
 pub same_controls : {r : Bool} (a b : Controls) → r ≡ controls-eq.ghosts.eq a b → Decides r (a ≡ b)
 same_controls a b e = rw e (controls_decides a b)
-
-skeleton_decides : (a b : Skeleton) → Decides (skeleton-eq.ghosts.eq a b) (a ≡ b)
-skeleton_decides a b = search rules
 
 module _ {r : Bool} (a b : Skeleton) (e : r ≡ not (skeleton-eq.ghosts.eq a b)) where
   pub other_reply : r ≡ true → a ≡ b → ⊥

@@ -37,8 +37,8 @@ pub record Found (text : List ℕ) (b : Board) (c : Controls) (rs : List Record)
   pub held : Held
   pub holds : Holds b held (first ∷ others)
   pub judged : Judged b held c j.verdict
-  pub written : HoldsMost most_in_all j.count j.records (first ∷ others)
-  pub long : length j.records ≡ most_in_all
+  pub written : HoldsMost most_in_all j.records.count j.records.records (first ∷ others)
+  pub long : length j.records.records ≡ most_in_all
 
 abbrev IsCrowded : Verdict → Type 0
 IsCrowded Crowded = Unit {0}

@@ -4,11 +4,13 @@ use mathlib.Core.List.{List, [], ◌∷◌}
 use Prim.Native.Nat.{ℕ}
 use Rattle.record.specs.declared.Record.{Record}
 use Rattle.record.specs.declared.Board.{Board}
+use Rattle.std.specs.Prelude.{Ok, Err}
 use Rattle.field.specs.declared.Cursor.{Cursor}
+use Rattle.field.specs.declared.BadField.{BadField}
+use Rattle.field.specs.Readers.{Read}
 use Rattle.field.proofs.Reading.{got_none, got_one}
-use Rattle.line.specs.declared.records.ReadRecord.{ReadRecord}
 use Rattle.line.specs.Records.{ReadsRecord}
-use Rattle.line.proofs.Apart.{tells_record}
+use Rattle.field.proofs.Answers.{tells_got}
 use Rattle.line.proofs.Theorems.{record_same}
 use Rattle.controls.specs.declared.Controls.{Controls}
 use Rattle.orders.specs.declared.Verdict.{Verdict}
@@ -23,23 +25,21 @@ use Rattle.stamps.specs.Judging.JudgesAt.{nothing, found}
 use Rattle.stamps.proofs.Sharing.{one_shares}
 
 module _ (text : List ℕ) (place : ℕ) (b : Board) (c : Controls) where
-  module _ (a : ReadRecord) (d : ReadsRecord text place a) (none : Gathered) (n : none ≡ nothing_gathered place) where
-    pub judges_none : {k : ℕ} → a ≡ ReadRecord.Bad k → JudgesAt text place b c (record { verdict = Crowded; records = none.records; count = 0; next = place; stamp = 0 })
-    judges_none e =
-        subst (λ (x : Gathered). JudgesAt text place b c (record { verdict = Crowded; records = x.records; count = 0; next = place; stamp = 0 })) (sym n)
-        (nothing (got_none tells_record d e))
+  module _ (a : Read Record) (d : ReadsRecord text place a) where
+    pub judges_none : {k : BadField} → a ≡ Err k → (j : Judgement) → j ≡ judgement Crowded 0 (nothing_gathered place) → JudgesAt text place b c j
+    judges_none e j q = subst (JudgesAt text place b c) (sym q) (nothing (got_none tells_got d e))
 
     -- what was gathered from nothing begins with the record that was read
-    pub judges_some : (r : Record) (cur : Cursor) → a ≡ ReadRecord.Value r cur → (g : Gathered) → Gathers text r.stamp none g →
+    pub judges_some : (r : Record) (cur : Cursor) → a ≡ Ok (r, cur) → (none : Gathered) → none ≡ nothing_gathered place → (g : Gathered) → Gathers text r.stamp none g →
         (v : Verdict) → Judged b g.held c v → JudgesAt text place b c (judgement v r.stamp g)
     unfolding Shares
-    judges_some r cur e g u v j =
+    judges_some r cur e none n g u v j =
         let q = u.gathered ∙ ap (λ (y : Gathered). gathered_all y u.records) n in
         subst (λ (y : Gathered). JudgesAt text place b c (judgement v r.stamp y)) (sym q)
         (begun u.records (subst (λ (y : Gathered). Shares text r.stamp y.next u.records) n u.shares) (subst (λ (y : Gathered). Judged b y.held c v) q j))
       where
         begun : (p : List Record) → Shares text r.stamp place p → Judged b (gathered_all (nothing_gathered place) p).held c v → JudgesAt text place b c (judgement v r.stamp (gathered_all (nothing_gathered place) p))
-        begun [] s h = let x = got_one tells_record d r cur.at e in absurd (s r x.ok x.stands refl)
+        begun [] s h = let x = got_one tells_got d r cur.at e in absurd (s r x.ok x.stands refl)
         begun (y ∷ p) s h =
             subst (λ (t : ℕ). JudgesAt text place b c (judgement v t (gathered_all (nothing_gathered place) (y ∷ p)))) s.2
             (found y p v (subst (λ (t : ℕ). Shares text t place (y ∷ p)) (sym s.2) s) h)

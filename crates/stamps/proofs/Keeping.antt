@@ -27,13 +27,13 @@ use Rattle.stamps.specs.Gathering.{kept_array, kept_count, array_with, count_wit
 -- the arrays have the lengths that they are declared with
 pub record Sized (g : Gathered) : Type 0 where
   pub held : (c : Channel) → length (array_of g.held c) ≡ most c
-  pub records : length g.records ≡ most_in_all
+  pub records : length g.records.records ≡ most_in_all
 
 -- the records p are gathered
 pub record Keeps (b : Board) (g : Gathered) (p : List Record) : Type 0 where
   pub sized : Sized g
   pub held : Holds b g.held p
-  pub written : HoldsMost most_in_all g.count g.records p
+  pub written : HoldsMost most_in_all g.records.count g.records.records p
 
 -- ---- one channel
 module _ (most count : ℕ) (array xs : List Record) (r : Record) (h : HoldsMost most count array xs) (long : length array ≡ most) where
@@ -103,7 +103,7 @@ module _ (b : Board) (p : List Record) (r : Record) (g : Gathered) (k : Keeps b 
   keeps_one next = record {
     sized = record {
       held = λ c. ap length (sym (array_by c (channel_of r.event) g.held r)) ∙ one_long c (same c (channel_of r.event));
-      records = keep_long most_in_all g.count g.records _ r k.written k.sized.records;
+      records = keep_long most_in_all g.records.count g.records.records _ r k.written k.sized.records;
     };
     held = held_by_lem;
     written = keep_most most_in_all _ _ _ r k.written k.sized.records;

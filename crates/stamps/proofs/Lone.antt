@@ -10,16 +10,15 @@ use Rattle.meaning.specs.Meaning.{Channel, F, E, L, same, most}
 use Rattle.tied.specs.Orders.{done, bus_first, line_first, after_buses, after_lines}
 use Rattle.record.specs.declared.Record.{Record}
 use Rattle.record.specs.declared.Board.{Board}
+use Rattle.std.specs.Prelude.{Ok, Err}
 use Rattle.field.specs.declared.Cursor.{Cursor}
-use Rattle.field.specs.declared.decimal.ReadDecimal.{ReadDecimal}
+use Rattle.field.specs.declared.BadField.{BadField}
 use Rattle.field.specs.Decimal.{decimal}
-use Rattle.field.specs.Readers.{ReadsDecimal}
+use Rattle.field.specs.Readers.{Read, ReadsDecimal}
 use Rattle.field.proofs.Reading.{got_none, got_one}
-use Rattle.field.proofs.Answers.{tells_decimal}
+use Rattle.field.proofs.Answers.{tells_got}
 use Rattle.field.proofs.FieldLaws.{content_stands}
-use Rattle.line.specs.declared.records.ReadRecord.{ReadRecord}
 use Rattle.line.specs.Records.{ReadsRecord}
-use Rattle.line.proofs.Apart.{tells_record}
 use Rattle.line.proofs.RecordLaws.{stamp_content}
 use Rattle.controls.specs.declared.Controls.{Controls}
 use Rattle.controls.specs.Play.{lost_of}
@@ -34,16 +33,16 @@ use Rattle.stamps.specs.Judging.JudgesAt.{found}
 use Rattle.stamps.specs.Lone.{lost_after, alone_verdict, alone_judgement}
 
 -- ---- the stamp is over: a record's line begins with its stamp
-module _ {n : ℕ} (text : List ℕ) (place t : ℕ) (a : ReadDecimal) (d : ReadsDecimal n text place a) where
+module _ {n : ℕ} (text : List ℕ) (place t : ℕ) (a : Read ℕ) (d : ReadsDecimal n text place a) where
   -- no stamp stands there
-  pub over_none : {k : ℕ} → a ≡ ReadDecimal.Bad k → Shares text t place []
+  pub over_none : {k : BadField} → a ≡ Err k → Shares text t place []
   unfolding Shares
-  over_none e r o s w = let c = stamp_content r s in got_none tells_decimal d e r.stamp (o.0, c) (content_stands text place (decimal r.stamp) c)
+  over_none e r o s w = let c = stamp_content r s in got_none tells_got d e r.stamp (o.0, c) (content_stands text place (decimal r.stamp) c)
 
   -- another one does
-  pub over_other : (m : ℕ) (c : Cursor) → a ≡ ReadDecimal.Value m c → (m ≡ t → ⊥) → Shares text t place []
+  pub over_other : (m : ℕ) (c : Cursor) → a ≡ Ok (m, c) → (m ≡ t → ⊥) → Shares text t place []
   unfolding Shares
-  over_other m c e x r o s w = let z = stamp_content r s in x ((got_one tells_decimal d m c.at e).only r.stamp (o.0, z) (content_stands text place (decimal r.stamp) z) ∙ w)
+  over_other m c e x r o s w = let z = stamp_content r s in x ((got_one tells_got d m c.at e).only r.stamp (o.0, z) (content_stands text place (decimal r.stamp) z) ∙ w)
 
 -- ---- one record has one order
 module _ (b : Board) (s : Controls) where
@@ -93,10 +92,10 @@ module _ (b : Board) (s : Controls) where
 
 -- ---- what `judge_at` finds there
 module _ (text : List ℕ) (place : ℕ) (b : Board) (c : Controls) where
-  pub judges_alone : (a : ReadRecord) → ReadsRecord text place a → (r : Record) (cur : Cursor) → a ≡ ReadRecord.Value r cur → Shares text r.stamp cur.at [] →
+  pub judges_alone : (a : Read Record) → ReadsRecord text place a → (r : Record) (cur : Cursor) → a ≡ Ok (r, cur) → Shares text r.stamp cur.at [] →
       (j : Judgement) → j ≡ alone_judgement b c r cur.at → JudgesAt text place b c j
   unfolding Shares gathered_all
   judges_alone a d r cur e over j q =
-      let x = got_one tells_record d r cur.at e in
+      let x = got_one tells_got d r cur.at e in
       subst (JudgesAt text place b c) (sym (q ∙ ap (alone_judgement b c r) x.next))
       (found r [] (alone_verdict b c r) (x.ok, x.stands, refl, subst (λ (n : ℕ). Shares text r.stamp n []) x.next over) (judged_one b c place r (channel_of r.event)))

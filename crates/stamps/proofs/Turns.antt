@@ -1,21 +1,24 @@
 -- The loop of `gather`: what was still to come at the start is still to come here.
-use mathlib.Core.Path.{◌≡◌, refl, sym, ap, subst, ◌∙◌}
-use mathlib.Core.Bool.{true, false}
+use mathlib.Core.Path.{◌≡◌, refl, ap, subst, subst₂, ◌∙◌}
 use mathlib.Core.List.{List, [], ◌∷◌}
 use Prim.Native.Nat.{ℕ, ◌+◌, ◌-◌, ◌<◌}
 use native.Mathlib.Omega.{arith}
 use lib.ListN.{length}
-use borrow.Author.Tests.{eqb-true, eqb-false}
-use Rattle.law.specs.Choice.{true_not_false}
 use Rattle.record.specs.declared.Record.{Record}
+use Rattle.std.specs.Prelude.{Ok, Err}
 use Rattle.field.specs.declared.Cursor.{Cursor}
+use Rattle.field.specs.declared.BadField.{BadField}
+use Rattle.field.specs.Readers.{Read}
 use Rattle.field.proofs.Reading.{Got, got_none, got_one}
-use Rattle.line.specs.declared.records.ReadRecord.{ReadRecord}
 use Rattle.line.specs.Records.{spelled, RecordOk, ReadsRecord}
-use Rattle.line.proofs.Apart.{tells_record}
+use Rattle.field.proofs.Answers.{tells_got}
 use Rattle.text.proofs.Standing.{got_record_place}
 use Rattle.stamps.specs.declared.Gathered.{Gathered}
-use Rattle.stamps.specs.Gathering.{gathered_with, is_of, gathered_read, gathered_all, Shares, Gathers}
+use Rattle.stamps.specs.Gathering.{gathered_with, gathered_all, Shares, Gathers}
+
+-- a reading at this place of this text
+pub reads_here : {text z : List ℕ} {at k : ℕ} {a : Read Record} → z ≡ text → k ≡ at → ReadsRecord z k a → ReadsRecord text at a
+reads_here {a} e f d = subst₂ (λ (l : List ℕ) (n : ℕ). ReadsRecord l n a) e f d
 
 pub record Gathering (text : List ℕ) (t : ℕ) (first g : Gathered) : Type 0 where
   pub goes : (h : Gathered) → Gathers text t g h → Gathers text t first h
@@ -43,16 +46,19 @@ module _ (text : List ℕ) (t : ℕ) (first g : Gathered) (k : Gathering text t 
   over s = k.goes g (record { records = []; shares = s; gathered = refl })
 
   -- what was read here is of the stamp: it is taken, and the place after it is nearer to the text's end
-  pub takes_on : (a : ReadRecord) → ReadsRecord text g.next a → is_of t a ≡ true → (m : Gathered) → m ≡ gathered_read g a → Gathering text t first m × (length text - m.next < length text - g.next)
-  takes_on (ReadRecord.Value r c) d h m f =
-      let x = got_one tells_record d r c.at refl in
+  pub takes_on : (a : Read Record) → ReadsRecord text g.next a → (r : Record) (c : Cursor) → a ≡ Ok (r, c) → r.stamp ≡ t → (m : Gathered) → m ≡ gathered_with g r c.at →
+      Gathering text t first m × (length text - m.next < length text - g.next)
+  takes_on a d r c e s m f =
+      let x = got_one tells_got d r c.at e in
       let p = got_record_place x in
       let n = ap (λ (y : Gathered). y.next) f in
-      (one_more r c x (eqb-true r.stamp t h) m f, omega (arith, p.0, p.1, n))
-  takes_on (ReadRecord.Bad n) d h m f = absurd (true_not_false (sym h))
+      (one_more r c x s m f, omega (arith, p.0, p.1, n))
 
   -- it is not, or none was read
-  pub takes_no_more : (a : ReadRecord) → ReadsRecord text g.next a → is_of t a ≡ false → Gathers text t first g
+  pub takes_other : (a : Read Record) → ReadsRecord text g.next a → (r : Record) (c : Cursor) → a ≡ Ok (r, c) → (r.stamp ≡ t → ⊥) → Gathers text t first g
   unfolding Shares
-  takes_no_more (ReadRecord.Value r c) d h = over (λ y o s w. eqb-false r.stamp t h (ap (λ (z : Record). z.stamp) ((got_one tells_record d r c.at refl).only y o s) ∙ w))
-  takes_no_more (ReadRecord.Bad n) d h = over (λ y o s w. got_none tells_record d refl y o s)
+  takes_other a d r c e n = over (λ y o s w. n (ap (λ (z : Record). z.stamp) ((got_one tells_got d r c.at e).only y o s) ∙ w))
+
+  pub takes_none : (a : Read Record) → ReadsRecord text g.next a → {k : BadField} → a ≡ Err k → Gathers text t first g
+  unfolding Shares
+  takes_none a d e = over (λ y o s w. got_none tells_got d e y o s)

@@ -1,5 +1,5 @@
 -- The records of one stamp, held together (document 01, 'Replies and stopping'): above the most that a channel may have, only that there are more is kept.
-use Rattle.std.specs.Prelude.{◌≡◌, Bool, false, List, [], ◌∷◌, ℕ, ◌+◌, eqb, ltb, length, set, replicate}
+use Rattle.std.specs.Prelude.{◌≡◌, List, [], ◌∷◌, ℕ, ◌+◌, ltb, length, set, replicate}
 use Rattle.law.specs.Words.{pick}
 use Rattle.meaning.specs.Meaning.{Channel, F, E, L, same, most}
 use Rattle.meaning.specs.Channels.{most_in_all}
@@ -7,7 +7,6 @@ use Rattle.record.specs.declared.Record.{Record}
 use Rattle.record.specs.declared.Event.TheVariants as event
 use Rattle.record.specs.declared.LineEvent.TheVariants.{SupplyOn}
 use Rattle.field.specs.Reads.{Stands}
-use Rattle.line.specs.declared.records.ReadRecord.{ReadRecord}
 use Rattle.line.specs.Records.{spelled, RecordOk}
 use Rattle.orders.specs.declared.Held.{Held}
 use Rattle.orders.specs.Verdicts.{count_of, array_of}
@@ -30,12 +29,9 @@ count_with c d h = pick (same c d) (kept_count (most c) (count_of h c)) (count_o
 
 abbrev pub held_by : Channel → Held → Record → Held
 held_by d h r = record {
-  flash = array_with F d h r;
-  flash_count = count_with F d h;
-  eeprom = array_with E d h r;
-  eeprom_count = count_with E d h;
-  lines = array_with L d h r;
-  line_count = count_with L d h;
+  flash = record { records = array_with F d h r; count = count_with F d h };
+  eeprom = record { records = array_with E d h r; count = count_with E d h };
+  lines = record { records = array_with L d h r; count = count_with L d h };
 }
 
 -- a record goes to its channel
@@ -50,15 +46,11 @@ no_record = record { stamp = 0; event = event.Line SupplyOn }
 abbrev pub nothing_gathered : ℕ → Gathered
 nothing_gathered place = record {
   held = record {
-    flash = replicate (most F) no_record;
-    flash_count = 0;
-    eeprom = replicate (most E) no_record;
-    eeprom_count = 0;
-    lines = replicate (most L) no_record;
-    line_count = 0;
+    flash = record { records = replicate (most F) no_record; count = 0 };
+    eeprom = record { records = replicate (most E) no_record; count = 0 };
+    lines = record { records = replicate (most L) no_record; count = 0 };
   };
-  records = replicate most_in_all no_record;
-  count = 0;
+  records = record { records = replicate most_in_all no_record; count = 0 };
   next = place;
 }
 
@@ -66,20 +58,9 @@ nothing_gathered place = record {
 abbrev pub gathered_with : Gathered → Record → ℕ → Gathered
 gathered_with g r next = record {
   held = held_with g.held r;
-  records = kept_array most_in_all g.records g.count r;
-  count = kept_count most_in_all g.count;
+  records = record { records = kept_array most_in_all g.records.records g.records.count r; count = kept_count most_in_all g.records.count };
   next = next;
 }
-
--- whether what was read is a record of the stamp t
-abbrev pub is_of : ℕ → ReadRecord → Bool
-is_of t (ReadRecord.Value r c) = eqb r.stamp t
-is_of t (ReadRecord.Bad k) = false
-
--- a record that was read is one more
-abbrev pub gathered_read : Gathered → ReadRecord → Gathered
-gathered_read g (ReadRecord.Value r c) = gathered_with g r c.at
-gathered_read g (ReadRecord.Bad k) = g
 
 -- records more, of which each stands behind the one before it
 unfoldable pub gathered_all : Gathered → List Record → Gathered

@@ -14,7 +14,7 @@ use Rattle.stamps.specs.Gathering.{nothing_gathered, gathered_all, Shares}
 
 -- a verdict on the stamp t with what was gathered of it
 abbrev pub judgement : Verdict → ℕ → Gathered → Judgement
-judgement v t g = record { verdict = v; records = g.records; count = g.count; next = g.next; stamp = t }
+judgement v t g = record { verdict = v; records = g.records; next = g.next; stamp = t }
 
 -- The records that share the stamp of the one at the place are gathered and judged. Where no record stands nothing is gathered, and the verdict is
 -- one that does not pass, since there the replay cannot go on: no place comes next. In a readable text a record stands at every place that is asked of.

@@ -1,5 +1,4 @@
 -- One stamp of a text.
 pub mod Gathering
-pub mod Taking
 pub mod Judging
 pub mod Lone

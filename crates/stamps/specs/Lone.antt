@@ -20,4 +20,4 @@ alone_verdict b c r = pick (lost_after b c r) Lost Passes
 
 -- the judgement, where the text goes on at `next`
 abbrev pub alone_judgement : Board → Controls → Record → ℕ → Judgement
-alone_judgement b c r next = record { verdict = alone_verdict b c r; records = set (replicate most_in_all no_record) 0 r; count = 1; next = next; stamp = r.stamp }
+alone_judgement b c r next = record { verdict = alone_verdict b c r; records = record { records = set (replicate most_in_all no_record) 0 r; count = 1 }; next = next; stamp = r.stamp }

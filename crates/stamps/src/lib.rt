@@ -1,175 +1,68 @@
 // One stamp of a text: its records are read, held together and judged, before anything is played.
 #![tactic(auto)]
 
-ghost use Rattle.std.specs.Prelude.{◌≡◌, true, [], ◌≤◌};
-ghost use Rattle.meaning.specs.Meaning.{F, E, L, most};
+ghost use Rattle.std.specs.Prelude.{◌≡◌, true, [], ◌≤◌, replicate};
 ghost use Rattle.meaning.specs.Channels.{most_in_all};
-ghost use Rattle.stamps.specs.Gathering.{kept_array, kept_count, gathered_with, no_record, nothing_gathered, is_of, gathered_read, Shares, Gathers};
+ghost use Rattle.stamps.specs.Gathering.{kept_array, kept_count, held_with, gathered_with, no_record, nothing_gathered, Shares, Gathers};
 ghost use Rattle.stamps.specs.Judging.{JudgesAt};
-ghost use Rattle.stamps.specs.Taking.{gathered_by};
 ghost use Rattle.stamps.specs.Lone.{lost_after, alone_verdict, alone_judgement};
 
 use controls::Controls;
-use field::{Cursor, ReadDecimal};
-use line::ReadRecord;
-use orders::{Held, Verdict};
+use field::Cursor;
+use orders::{Held, Records, Verdict};
 use record::{Board, Event, LineEvent, Record};
+use text::Reader;
 
 // The records of one stamp by channel and as they are written, and the place after them.
 #[derive(Clone, Copy)]
 pub struct Gathered {
     pub held: Held,
-    pub records: [Record; orders::MOST_IN_ALL],
-    pub count: usize,
+    pub records: Records<{ orders::MOST_IN_ALL }>,
     pub next: usize,
 }
 
-// One record more of a bus, where there is room.
-fn keep_bus(
-    array: [Record; orders::MOST_BUS],
-    count: usize,
-    rec: Record,
-) -> [Record; orders::MOST_BUS]
-    ensures { result ≡ kept_array (most F) array count rec }
+// One record more, where there is room; where there is none, the count says one more than the most.
+fn keep<const N: usize>(kept: Records<N>, rec: Record) -> Records<N>
+    requires { N ≤ most_in_all }
+    ensures { result ≡ record { records = kept_array N kept.entry.records kept.entry.count rec; count = kept_count N kept.entry.count } }
 {
-    let mut next = array;
-    if count < orders::MOST_BUS {
-        next[count] = rec;
-        return next;
+    if kept.count < N {
+        return kept.push(rec);
     }
-    next
-}
-
-// The same of the lines.
-fn keep_line(
-    array: [Record; orders::MOST_LINE],
-    count: usize,
-    rec: Record,
-) -> [Record; orders::MOST_LINE]
-    ensures { result ≡ kept_array (most L) array count rec }
-{
-    let mut next = array;
-    if count < orders::MOST_LINE {
-        next[count] = rec;
-        return next;
-    }
-    next
-}
-
-// The same of all that share the stamp.
-fn keep_in_all(
-    array: [Record; orders::MOST_IN_ALL],
-    count: usize,
-    rec: Record,
-) -> [Record; orders::MOST_IN_ALL]
-    ensures { result ≡ kept_array most_in_all array count rec }
-{
-    let mut next = array;
-    if count < orders::MOST_IN_ALL {
-        next[count] = rec;
-        return next;
-    }
-    next
-}
-
-// The count says one more than the most where there are more.
-fn count_more(count: usize, most: usize) -> usize
-    requires { most ≤ most_in_all }
-    ensures { result ≡ kept_count most count }
-{
-    if count < most {
-        return count + 1;
-    }
-    most + 1
-}
-
-fn gather_flash(g: Gathered, rec: Record, next: usize) -> Gathered
-    ensures { result ≡ gathered_by F g rec next }
-{
-    let held = g.held;
-    let old = held.flash;
-    let flash = keep_bus(old, held.flash_count, rec);
-    let eeprom = held.eeprom;
-    let lines = held.lines;
-    let written = g.records;
-    let records = keep_in_all(written, g.count, rec);
-    let more = Held {
-        flash: flash,
-        flash_count: count_more(held.flash_count, orders::MOST_BUS),
-        eeprom: eeprom,
-        eeprom_count: held.eeprom_count,
-        lines: lines,
-        line_count: held.line_count,
-    };
-    Gathered {
-        held: more,
-        records: records,
-        count: count_more(g.count, orders::MOST_IN_ALL),
-        next: next,
+    Records {
+        count: N + 1,
+        ..kept
     }
 }
 
-fn gather_eeprom(g: Gathered, rec: Record, next: usize) -> Gathered
-    ensures { result ≡ gathered_by E g rec next }
+// One record more of the stamp goes to its channel.
+fn hold(held: Held, rec: Record) -> Held
+    ensures { result ≡ held_with held rec }
 {
-    let held = g.held;
-    let flash = held.flash;
-    let old = held.eeprom;
-    let eeprom = keep_bus(old, held.eeprom_count, rec);
-    let lines = held.lines;
-    let written = g.records;
-    let records = keep_in_all(written, g.count, rec);
-    let more = Held {
-        flash: flash,
-        flash_count: held.flash_count,
-        eeprom: eeprom,
-        eeprom_count: count_more(held.eeprom_count, orders::MOST_BUS),
-        lines: lines,
-        line_count: held.line_count,
-    };
-    Gathered {
-        held: more,
-        records: records,
-        count: count_more(g.count, orders::MOST_IN_ALL),
-        next: next,
+    match rec.event {
+        Event::Flash(_) => Held {
+            flash: keep(held.flash, rec),
+            ..held
+        },
+        Event::Eeprom(_) => Held {
+            eeprom: keep(held.eeprom, rec),
+            ..held
+        },
+        Event::Line(_) => Held {
+            lines: keep(held.lines, rec),
+            ..held
+        },
     }
 }
 
-fn gather_line(g: Gathered, rec: Record, next: usize) -> Gathered
-    ensures { result ≡ gathered_by L g rec next }
-{
-    let held = g.held;
-    let flash = held.flash;
-    let eeprom = held.eeprom;
-    let old = held.lines;
-    let lines = keep_line(old, held.line_count, rec);
-    let written = g.records;
-    let records = keep_in_all(written, g.count, rec);
-    let more = Held {
-        flash: flash,
-        flash_count: held.flash_count,
-        eeprom: eeprom,
-        eeprom_count: held.eeprom_count,
-        lines: lines,
-        line_count: count_more(held.line_count, orders::MOST_LINE),
-    };
-    Gathered {
-        held: more,
-        records: records,
-        count: count_more(g.count, orders::MOST_IN_ALL),
-        next: next,
-    }
-}
-
-// One record more of the stamp goes to its channel; the next one stands at `next`.
+// The same, with those as they are written; the next one stands at `next`.
 fn gather_one(g: Gathered, rec: Record, next: usize) -> Gathered
     ensures { result ≡ gathered_with g rec next }
 {
-    let event = rec.event;
-    match event {
-        Event::Flash(_) => gather_flash(g, rec, next),
-        Event::Eeprom(_) => gather_eeprom(g, rec, next),
-        Event::Line(_) => gather_line(g, rec, next),
+    Gathered {
+        held: hold(g.held, rec),
+        records: keep(g.records, rec),
+        next,
     }
 }
 
@@ -183,44 +76,28 @@ fn no_record() -> Record
     }
 }
 
+// None yet.
+fn none<const N: usize>() -> Records<N>
+    ensures { result ≡ record { records = replicate N no_record; count = 0 } }
+{
+    Records {
+        records: [no_record(); N],
+        count: 0,
+    }
+}
+
 // Nothing yet; the first record stands at `next`.
 fn none_gathered(next: usize) -> Gathered
     ensures { result ≡ nothing_gathered next }
 {
-    let none = no_record();
-    let held = Held {
-        flash: [none; orders::MOST_BUS],
-        flash_count: 0,
-        eeprom: [none; orders::MOST_BUS],
-        eeprom_count: 0,
-        lines: [none; orders::MOST_LINE],
-        line_count: 0,
-    };
     Gathered {
-        held: held,
-        records: [none; orders::MOST_IN_ALL],
-        count: 0,
-        next: next,
-    }
-}
-
-// Whether a record was read, and is of the stamp.
-fn shares(read: ReadRecord, stamp: u32) -> bool
-    ensures { result ≡ is_of stamp read }
-{
-    match read {
-        ReadRecord::Value(rec, _) => rec.stamp == stamp,
-        ReadRecord::Bad(_) => false,
-    }
-}
-
-// The record that was read is one more; where none was, all stays.
-fn gather_read(g: Gathered, read: ReadRecord) -> Gathered
-    ensures { result ≡ gathered_read g read }
-{
-    match read {
-        ReadRecord::Value(rec, c) => gather_one(g, rec, c.at),
-        ReadRecord::Bad(_) => g,
+        held: Held {
+            flash: none(),
+            eeprom: none(),
+            lines: none(),
+        },
+        records: none(),
+        next,
     }
 }
 
@@ -229,12 +106,13 @@ fn gather(text: &[u8], first: Gathered, stamp: u32) -> Gathered
     ensures { Gathers text.now stamp first result }
 {
     let mut g = first;
-    let mut reader = text::reader_at(text, first.next);
-    let mut read = text::next_record(reader);
-    while shares(read, stamp) {
-        g = gather_read(g, read);
-        reader = text::moved_to(reader, g.next);
-        read = text::next_record(reader);
+    let mut reader = Reader::new(text, first.next);
+    while let Ok((rec, after)) = reader.next_record() {
+        if rec.stamp != stamp {
+            break;
+        }
+        g = gather_one(g, rec, after.at);
+        reader = reader.moved_to(after.at);
     }
     g
 }
@@ -243,8 +121,7 @@ fn gather(text: &[u8], first: Gathered, stamp: u32) -> Gathered
 #[derive(Clone, Copy)]
 pub struct Judgement {
     pub verdict: Verdict,
-    pub records: [Record; orders::MOST_IN_ALL],
-    pub count: usize,
+    pub records: Records<{ orders::MOST_IN_ALL }>,
     pub next: usize,
     pub stamp: u32,
 }
@@ -253,34 +130,22 @@ pub struct Judgement {
 fn over_at(text: &[u8], place: usize, stamp: u32) -> bool
     ensures { result ≡ true → Shares text.now stamp place [] }
 {
-    let ReadDecimal::Value(other, _) = field::read_decimal(text, Cursor { at: place }, line::STAMP)
-    else {
-        return true;
-    };
-    if other != stamp {
-        return true;
+    match field::read_decimal(text, Cursor { at: place }, line::STAMP) {
+        Ok((other, _)) => other != stamp,
+        Err(_) => true,
     }
-    false
 }
 
-// Whether the status is lost after a record, which is played for it.
-fn lost_played(rec: Record, board: Board, controls: Controls) -> bool
-    ensures { result ≡ lost_after board controls rec }
-{
-    let step = controls.play(board, rec);
-    let next = step.controls;
-    next.lost()
-}
-
-// The same: only a line record can lose it, so only that one is played.
+// Whether the status is lost after a record: only a line record can lose it, so only that one is played.
 fn lost_by(rec: Record, board: Board, controls: Controls) -> bool
     ensures { result ≡ lost_after board controls rec }
 {
-    let event = rec.event;
-    match event {
-        Event::Flash(_) => controls.lost(),
-        Event::Eeprom(_) => controls.lost(),
-        Event::Line(_) => lost_played(rec, board, controls),
+    match rec.event {
+        Event::Flash(_) | Event::Eeprom(_) => controls.lost(),
+        Event::Line(_) => {
+            let next = controls.play(board, rec).controls;
+            next.lost()
+        }
     }
 }
 
@@ -299,15 +164,10 @@ fn judge_alone(rec: Record, board: Board, controls: Controls) -> Verdict
 fn found_alone(rec: Record, next: usize, board: Board, controls: Controls) -> Judgement
     ensures { result ≡ alone_judgement board controls rec next }
 {
-    let none = no_record();
-    let mut records = [none; orders::MOST_IN_ALL];
-    records[0] = rec;
-    let verdict = judge_alone(rec, board, controls);
     Judgement {
-        verdict: verdict,
-        records: records,
-        count: 1,
-        next: next,
+        verdict: judge_alone(rec, board, controls),
+        records: keep(none(), rec),
+        next,
         stamp: rec.stamp,
     }
 }
@@ -316,29 +176,22 @@ fn found_alone(rec: Record, next: usize, board: Board, controls: Controls) -> Ju
 pub fn judge_at(text: &[u8], place: usize, board: Board, controls: Controls) -> Judgement
     ensures { JudgesAt text.now place board controls result }
 {
-    let ReadRecord::Value(first, c) = text::record_at(text, place) else {
-        let nothing = none_gathered(place);
-        let records = nothing.records;
+    let Ok((first, after)) = text::record_at(text, place) else {
         return Judgement {
             verdict: Verdict::Crowded,
-            records: records,
-            count: 0,
+            records: none(),
             next: place,
             stamp: 0,
         };
     };
-    if over_at(text, c.at, first.stamp) {
-        return found_alone(first, c.at, board, controls);
+    if over_at(text, after.at, first.stamp) {
+        return found_alone(first, after.at, board, controls);
     }
     // The first is read again with the others: records are then taken in at one place, and the compiler spares their copies.
     let g = gather(text, none_gathered(place), first.stamp);
-    let held = g.held;
-    let records = g.records;
-    let verdict = orders::judge(held, board, controls);
     Judgement {
-        verdict: verdict,
-        records: records,
-        count: g.count,
+        verdict: orders::judge(g.held, board, controls),
+        records: g.records,
         next: g.next,
         stamp: first.stamp,
     }

@@ -1,10 +1,13 @@
 use Rattle.std.specs.Prelude.{◌≡◌, ◌-◌, length}
-use Rattle.line.specs.Records.{ReadsRecord}
 use Rattle.stamps.proofs.Turns.{Gathering}
 use Rattle.stamps.proofs.gather.Given as goal
 
-abbrev pub invariant-loop-reader : goal.invariant-loop-reader
-invariant-loop-reader l = (l.reader.text.now ≡ l.text) × ReadsRecord l.text l.g.next l.read × Gathering l.text l.stamp l.initial.g l.g
+abbrev pub invariant-loop-rec : goal.invariant-loop-rec
+invariant-loop-rec l = record {
+  here : l.reader.text.now ≡ l.text;
+  at : l.reader.at ≡ l.g.next;
+  so_far : Gathering l.text l.stamp l.initial.g l.g;
+}
 
-abbrev pub decreases-loop-reader : goal.decreases-loop-reader
-decreases-loop-reader l = length l.text - l.g.next
+abbrev pub decreases-loop-rec : goal.decreases-loop-rec
+decreases-loop-rec l = length l.text - l.g.next
