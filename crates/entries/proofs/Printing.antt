@@ -10,11 +10,8 @@ use borrow.Author.Tests.{eq-eqb, ne_eqb}
 use Rattle.law.specs.Choice.{lt_or_le}
 use Rattle.record.specs.Lengths.{plan_result_length}
 use Rattle.field.specs.Decimal.{largest}
-use Rattle.field.specs.declared.spelling.Spelling.{Spelling}
-use Rattle.field.specs.Spelling.{no_bytes, put_all, held}
-use Rattle.field.specs.Room.{room}
-use Rattle.field.proofs.SpellingLaws.{Holds}
-use Rattle.listing.proofs.Lengths.{holds}
+use Rattle.field.specs.Spelling.{no_bytes, put_all}
+use Rattle.field.proofs.SpellingLaws.{holds}
 use Rattle.listing.proofs.Stores.{then}
 use Rattle.fewest.specs.Fewest.{most_room}
 use Rattle.fewest.specs.Plan.{called}
@@ -32,25 +29,22 @@ use Rattle.entries.proofs.Outcome.{Printable, printable}
 -- ---- the outcome
 module _ (answer : ℕ) (list result old : List ℕ) (ready : Ready answer list result (length old)) where
   -- a refusal
-  module _ (refuses : answer ≡ 0 → ⊥) (small : answer ≤ largest) {s : Spelling} (put : s ≡ put_all no_bytes (refusal_line answer)) where
+  module _ (refuses : answer ≡ 0 → ⊥) (small : answer ≤ largest) {s : List ℕ} (put : s ≡ put_all no_bytes (refusal_line answer)) where
     as_refusal : outcome_lines answer list result ≡ refusal_line answer
     unfolding outcome_lines
     as_refusal = simp (ne_eqb answer 0 refuses)
 
-    refusal_held : Holds s (refusal_line answer)
+    refusal_held : s ≡ refusal_line answer
     refusal_held = holds (refusal_line answer) put (omega (arith, refusal_length answer small))
 
-    pub refusal_room : (s.len ≤ room) × (0 + s.len ≤ length old)
-    refusal_room = (
-      omega (arith, refusal_held.len, refusal_length answer small),
-      omega (arith, refusal_held.len, ap length as_refusal, ready.enough),
-    )
+    pub refusal_room : 0 + length s ≤ length old
+    refusal_room = omega (arith, ap length refusal_held, ap length as_refusal, ready.enough)
 
-    pub refusal_left : (new : List ℕ) (n : ℕ) → n ≡ 0 + s.len → new ≡ sets old 0 (held s)
+    pub refusal_left : (new : List ℕ) (n : ℕ) → n ≡ 0 + length s → new ≡ sets old 0 s
         → (n ≡ length (outcome_lines answer list result)) × (new ≡ sets old 0 (outcome_lines answer list result))
     refusal_left new n e f = (
-      omega (arith, refusal_held.len, ap length as_refusal),
-      f ∙ ap (sets old 0) (refusal_held.bytes ∙ sym as_refusal),
+      omega (arith, ap length refusal_held, ap length as_refusal),
+      f ∙ ap (sets old 0) (refusal_held ∙ sym as_refusal),
     )
 
   -- a plan
@@ -73,18 +67,18 @@ module _ (answer : ℕ) (list result old : List ℕ) (ready : Ready answer list 
         omega (arith, as_length, ready.enough),
       )
 
-      module _ (small : number ≤ largest) {s : Spelling} (put : s ≡ put_all no_bytes (cycles_line number)) (at : ℕ) (after : at ≡ length (lines_from list number 0)) where
-        cycles_held : Holds s (cycles_line number)
+      module _ (small : number ≤ largest) {s : List ℕ} (put : s ≡ put_all no_bytes (cycles_line number)) (at : ℕ) (after : at ≡ length (lines_from list number 0)) where
+        cycles_held : s ≡ cycles_line number
         cycles_held = holds (cycles_line number) put (omega (arith, cycles_length number small))
 
-        pub cycles_room : (m : ℕ) → m ≡ length old → (s.len ≤ room) × (at + s.len ≤ m)
-        cycles_room m e = (omega (arith, cycles_held.len, cycles_length number small), omega (arith, cycles_held.len, as_length, ready.enough))
+        pub cycles_room : (m : ℕ) → m ≡ length old → at + length s ≤ m
+        cycles_room m e = omega (arith, ap length cycles_held, as_length, ready.enough)
 
-        pub plan_left : (mid new : List ℕ) (n : ℕ) → mid ≡ sets old 0 (lines_from list number 0) → n ≡ at + s.len → new ≡ sets mid at (held s)
+        pub plan_left : (mid new : List ℕ) (n : ℕ) → mid ≡ sets old 0 (lines_from list number 0) → n ≡ at + length s → new ≡ sets mid at s
             → (n ≡ length (outcome_lines answer list result)) × (new ≡ sets old 0 (outcome_lines answer list result))
         plan_left mid new n e f g = (
-          omega (arith, cycles_held.len, as_length),
-          then (lines_from list number 0) (cycles_line number) old new e after (g ∙ ap (sets mid at) cycles_held.bytes) ∙ ap (sets old 0) (sym as_number),
+          omega (arith, ap length cycles_held, as_length),
+          then (lines_from list number 0) (cycles_line number) old new e after (g ∙ ap (sets mid at) cycles_held) ∙ ap (sets old 0) (sym as_number),
         )
 
 -- ---- the whole
@@ -123,14 +117,14 @@ module _ (present wanted text old : List ℕ) (read : ReadsStatus text None) whe
   is_unfit : PlanPrinted present wanted text (refusal_line 14)
   is_unfit = PlanPrinted.unfit (λ s u. spells_none text read s u.status_bits.0 u.spelled)
 
-  module _ (number : ℕ) (is : number ≡ 14) (enough : print_room ≤ length old) {s : Spelling} (put : s ≡ put_all no_bytes (refusal_line number)) where
-    unfit_held : Holds s (refusal_line number)
+  module _ (number : ℕ) (is : number ≡ 14) (enough : print_room ≤ length old) {s : List ℕ} (put : s ≡ put_all no_bytes (refusal_line number)) where
+    unfit_held : s ≡ refusal_line number
     unfit_held = holds (refusal_line number) put (omega (arith, refusal_length number (omega arith)))
 
-    pub unfit_room : (s.len ≤ room) × (0 + s.len ≤ length old)
-    unfit_room = (omega (arith, unfit_held.len, refusal_length number (omega arith)), omega (arith, unfit_held.len, refusal_length number (omega arith)))
+    pub unfit_room : 0 + length s ≤ length old
+    unfit_room = omega (arith, ap length unfit_held, refusal_length number (omega arith))
 
-    pub unfit_left : (new : List ℕ) (n : ℕ) → n ≡ 0 + s.len → new ≡ sets old 0 (held s) → PrintsPlan present wanted text old new n
+    pub unfit_left : (new : List ℕ) (n : ℕ) → n ≡ 0 + length s → new ≡ sets old 0 s → PrintsPlan present wanted text old new n
     unfit_left new n e f =
         let l = refusal_length number (omega arith) in
         let same = ap refusal_line is in
@@ -138,8 +132,8 @@ module _ (present wanted text old : List ℕ) (read : ReadsStatus text None) whe
           printed = refusal_line 14;
           is = is_unfit;
           written = λ _. (
-            omega (arith, unfit_held.len, ap (λ (b : List ℕ). length b) same),
-            f ∙ ap (sets old 0) (unfit_held.bytes ∙ same) ∙ laid_over_lem (refusal_line 14) old (omega (arith, ap (λ (b : List ℕ). length b) same)),
+            omega (arith, ap length unfit_held, ap (λ (b : List ℕ). length b) same),
+            f ∙ ap (sets old 0) (unfit_held ∙ same) ∙ laid_over_lem (refusal_line 14) old (omega (arith, ap (λ (b : List ℕ). length b) same)),
           );
           short = λ h. absurd (omega arith);
         }

@@ -2,49 +2,40 @@
 use Prim.Native.Nat.{ℕ, ◌≤◌}
 use native.Mathlib.Omega.{arith}
 use mathlib.Core.Path.{◌≡◌, ap, ◌∙◌}
-use mathlib.Core.List.{List, [], ◌∷◌}
+use mathlib.Core.List.{List, [], ◌∷◌, ◌++◌, append-nil}
 use lib.Dec.{eqb}
 use lib.ListN.{length, length-append}
 use Rattle.law.specs.Choice.{of_both}
-use Rattle.field.specs.declared.spelling.Spelling.{Spelling}
 use Rattle.field.specs.Decimal.{decimal, largest}
 use Rattle.field.specs.Ends.{tab, lf}
 use Rattle.field.specs.Hex.{hex_field}
 use Rattle.field.specs.Spelling.{no_bytes, put_all}
-use Rattle.field.specs.Room.{room}
-use Rattle.field.proofs.SpellingLaws.{Holds, digits_count}
-use Rattle.line.proofs.Put.{put_on}
-use Rattle.listing.proofs.Putting.{put_three}
-use Rattle.listing.proofs.Lengths.{holds}
+use Rattle.field.proofs.SpellingLaws.{holds, put_then, digits_count}
 use Rattle.entries.proofs.Digits.{byte_length}
 use Rattle.entries.specs.Printed.{word_program, word_chip_erase, word_sector_erase, hex_bytes, cycles_line, refusal_line}
 use Rattle.entries.specs.Lines.{kind_word, address_end, head_line}
 
--- what was put to an empty spelling
-from : (w : List ℕ) {s r : Spelling} → s ≡ no_bytes → r ≡ put_all s w → r ≡ put_all no_bytes w
-from w e f = f ∙ ap (λ (k : Spelling). put_all k w) e
+-- three pieces put one after another
+put_three : (s a b c : List ℕ) {s1 s2 r : List ℕ} → s1 ≡ put_all s a → s2 ≡ put_all s1 b → r ≡ put_all s2 c → r ≡ put_all s (a ++ (b ++ c))
+put_three s a b c e f g =
+    g
+    ∙ ap (λ (k : List ℕ). put_all k c) (f ∙ ap (λ (k : List ℕ). put_all k b) e)
+    ∙ put_then (put_all s a) b c
+    ∙ put_then s a (b ++ c)
 
-pub put_address : (s : Spelling) (a b c : ℕ) {s1 s2 r : Spelling} → s1 ≡ put_all s (hex_field a) → s2 ≡ put_all s1 (hex_field b) → r ≡ put_all s2 (hex_field c)
+pub put_address : (s : List ℕ) (a b c : ℕ) {s1 s2 r : List ℕ} → s1 ≡ put_all s (hex_field a) → s2 ≡ put_all s1 (hex_field b) → r ≡ put_all s2 (hex_field c)
     → r ≡ put_all s (hex_bytes (a ∷ b ∷ c ∷ []))
 unfolding hex_bytes hex_field
 put_address s a b c e f g = put_three s (hex_field a) (hex_field b) (hex_field c) e f g
 
 -- kind, tab, address and its end
-pub put_head : (kind a b c : ℕ) {s s1 s2 s3 r : Spelling} → s ≡ no_bytes → s1 ≡ put_all s (kind_word kind) → s2 ≡ put_all s1 (9 ∷ [])
+pub put_head : (kind a b c : ℕ) {s s1 s2 s3 r : List ℕ} → s ≡ no_bytes → s1 ≡ put_all s (kind_word kind) → s2 ≡ put_all s1 (9 ∷ [])
     → s3 ≡ put_all s2 (hex_bytes (a ∷ b ∷ c ∷ [])) → r ≡ put_all s3 (address_end kind) → r ≡ put_all no_bytes (head_line kind a b c)
 unfolding head_line
 put_head kind a b c {s} {s1} n e f g h =
-    from _ n (put_on s (kind_word kind) _ e (put_three s1 (9 ∷ []) (hex_bytes (a ∷ b ∷ c ∷ [])) (address_end kind) f g h))
-
-pub put_cycles : (n : ℕ) {s s1 s2 r : Spelling} → s ≡ no_bytes → s1 ≡ put_all s (99 ∷ 121 ∷ 99 ∷ 108 ∷ 101 ∷ 115 ∷ 9 ∷ []) → s2 ≡ put_all s1 (decimal n)
-    → r ≡ put_all s2 (10 ∷ []) → r ≡ put_all no_bytes (cycles_line n)
-unfolding cycles_line
-put_cycles n {s} z e f g = from _ z (put_three s (99 ∷ 121 ∷ 99 ∷ 108 ∷ 101 ∷ 115 ∷ 9 ∷ []) (decimal n) (10 ∷ []) e f g)
-
-pub put_refusal : (n : ℕ) {s s1 s2 r : Spelling} → s ≡ no_bytes → s1 ≡ put_all s (114 ∷ 101 ∷ 102 ∷ 117 ∷ 115 ∷ 101 ∷ 100 ∷ 9 ∷ []) → s2 ≡ put_all s1 (decimal n)
-    → r ≡ put_all s2 (10 ∷ []) → r ≡ put_all no_bytes (refusal_line n)
-unfolding refusal_line
-put_refusal n {s} z e f g = from _ z (put_three s (114 ∷ 101 ∷ 102 ∷ 117 ∷ 115 ∷ 101 ∷ 100 ∷ 9 ∷ []) (decimal n) (10 ∷ []) e f g)
+    put_three s1 (9 ∷ []) (hex_bytes (a ∷ b ∷ c ∷ [])) (address_end kind) f g h
+    ∙ ap (λ (k : List ℕ). put_all k ((9 ∷ []) ++ (hex_bytes (a ∷ b ∷ c ∷ []) ++ address_end kind))) (e ∙ ap (λ (k : List ℕ). put_all k (kind_word kind)) n)
+    ∙ put_then no_bytes (kind_word kind) ((9 ∷ []) ++ (hex_bytes (a ∷ b ∷ c ∷ []) ++ address_end kind))
 
 -- ---- lengths
 kind_length : (kind : ℕ) → length (kind_word kind) ≤ 12
@@ -66,11 +57,8 @@ unfolding refusal_line
 refusal_length n h = simp length-append (omega (arith, digits_count n h))
 
 -- ---- so each line holds just its bytes
-pub head_held : (kind a b c : ℕ) {s : Spelling} → s ≡ put_all no_bytes (head_line kind a b c) → Holds s (head_line kind a b c)
+pub head_held : (kind a b c : ℕ) {s : List ℕ} → s ≡ put_all no_bytes (head_line kind a b c) → s ≡ head_line kind a b c
 head_held kind a b c e = holds (head_line kind a b c) e (omega (arith, head_length kind a b c))
 
-pub head_room : (kind a b c : ℕ) {s : Spelling} → s ≡ put_all no_bytes (head_line kind a b c) → s.len ≤ room
-head_room kind a b c e = omega (arith, (head_held kind a b c e).len, head_length kind a b c)
-
-pub byte_held : (b : ℕ) {s r : Spelling} → s ≡ no_bytes → r ≡ put_all s (hex_field b) → Holds r (hex_field b)
-byte_held b z e = holds (hex_field b) (from (hex_field b) z e) (omega (arith, byte_length b))
+pub byte_held : (b : ℕ) {s r : List ℕ} → s ≡ no_bytes → r ≡ put_all s (hex_field b) → r ≡ hex_field b
+byte_held b z e = holds (hex_field b) (e ∙ ap (λ (s : List ℕ). put_all s (hex_field b)) z) (omega (arith, byte_length b))

@@ -12,9 +12,9 @@ fn put_kind(s: Spelling, kind: Kind) -> Spelling
     ensures { result ≡ put_all s (kind_word (kind_byte kind)) }
 {
     match kind {
-        Kind::SectorErase => field::put_word(s, b"sector-erase"),
-        Kind::ChipErase => field::put_word(s, b"chip-erase"),
-        Kind::Program => field::put_word(s, b"program"),
+        Kind::SectorErase => s.word(b"sector-erase"),
+        Kind::ChipErase => s.word(b"chip-erase"),
+        Kind::Program => s.word(b"program"),
     }
 }
 
@@ -22,9 +22,7 @@ fn put_kind(s: Spelling, kind: Kind) -> Spelling
 fn put_address(s: Spelling, high: u8, middle: u8, low: u8) -> Spelling
     ensures { result ≡ put_all s (hex_bytes (high ∷ middle ∷ low ∷ [])) }
 {
-    let s1 = field::put_hex(s, high);
-    let s2 = field::put_hex(s1, middle);
-    field::put_hex(s2, low)
+    s.hex(high).hex(middle).hex(low)
 }
 
 // A program's page follows its address.
@@ -32,8 +30,8 @@ fn put_end(s: Spelling, kind: Kind) -> Spelling
     ensures { result ≡ put_all s (address_end (kind_byte kind)) }
 {
     match kind {
-        Kind::Program => field::put_word(s, b"\t"),
-        Kind::SectorErase | Kind::ChipErase => field::put_word(s, b"\n"),
+        Kind::Program => s.word(b"\t"),
+        Kind::SectorErase | Kind::ChipErase => s.word(b"\n"),
     }
 }
 
@@ -41,26 +39,22 @@ fn put_end(s: Spelling, kind: Kind) -> Spelling
 pub(crate) fn head_line(kind: Kind, high: u8, middle: u8, low: u8) -> Spelling
     ensures { result ≡ put_all no_bytes (head_line (kind_byte kind) high middle low) }
 {
-    let s1 = put_kind(field::no_bytes(), kind);
-    let s2 = field::put_word(s1, b"\t");
-    let s3 = put_address(s2, high, middle, low);
-    put_end(s3, kind)
+    let s = put_kind(Spelling::new(), kind).word(b"\t");
+    put_end(put_address(s, high, middle, low), kind)
 }
 
 // The number of cycles.
+#[tactic(auto, using(field::proofs::SpellingLaws::put_then), unfolding(crate::specs::Printed::cycles_line))]
 pub(crate) fn cycles_line(number: u32) -> Spelling
     ensures { result ≡ put_all no_bytes (cycles_line number) }
 {
-    let s1 = field::put_word(field::no_bytes(), b"cycles\t");
-    let s2 = field::put_decimal(s1, number);
-    field::put_word(s2, b"\n")
+    Spelling::new().word(b"cycles\t").decimal(number).word(b"\n")
 }
 
 // A refusal's number.
+#[tactic(auto, using(field::proofs::SpellingLaws::put_then), unfolding(crate::specs::Printed::refusal_line))]
 pub(crate) fn refusal_line(answer: u32) -> Spelling
     ensures { result ≡ put_all no_bytes (refusal_line answer) }
 {
-    let s1 = field::put_word(field::no_bytes(), b"refused\t");
-    let s2 = field::put_decimal(s1, answer);
-    field::put_word(s2, b"\n")
+    Spelling::new().word(b"refused\t").decimal(answer).word(b"\n")
 }

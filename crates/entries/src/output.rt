@@ -4,8 +4,6 @@ ghost use Rattle.std.proofs.lemmas.List.Edits.{sets};
 ghost use Rattle.page.specs.Geometry.{flash_page};
 ghost use Rattle.field.specs.Ends.{lf};
 ghost use Rattle.field.specs.Hex.{hex_field};
-ghost use Rattle.field.specs.Spelling.{held};
-ghost use Rattle.field.specs.Room.{room};
 ghost use Rattle.entries.specs.Printed.{hex_bytes};
 ghost use Rattle.entries.specs.Lines.{page_at};
 
@@ -13,13 +11,14 @@ use field::Spelling;
 
 const PAGE: usize = page::FLASH_PAGE as usize;
 
-// Copies the bytes held into the output from a place on; the place after them.
-pub(crate) fn copy_line(s: Spelling, out: &mut [u8], at: usize) -> usize
-    requires { (s.len ≤ room) × (at + s.len ≤ length out.old) }
-    ensures { (result ≡ at + s.len) × (out.new ≡ sets out.old at (held s)) }
+// Copies the line into the output from a place on; the place after it.
+pub(crate) fn copy_line(line: Spelling, out: &mut [u8], at: usize) -> usize
+    requires { at + length line ≤ length out.old }
+    ensures { (result ≡ at + length line) × (out.new ≡ sets out.old at line) }
 {
-    let end = at + s.len;
-    out[at..end].copy_from_slice(&s.bytes[..s.len]);
+    let bytes = line.as_slice();
+    let end = at + bytes.len();
+    out[at..end].copy_from_slice(bytes);
     end
 }
 
@@ -28,7 +27,7 @@ fn print_byte(byte: u8, out: &mut [u8], at: usize) -> usize
     requires { at + 2 ≤ length out.old }
     ensures { (result ≡ at + 2) × (out.new ≡ sets out.old at (hex_field byte)) }
 {
-    copy_line(field::put_hex(field::no_bytes(), byte), out, at)
+    copy_line(Spelling::new().hex(byte), out, at)
 }
 
 // The page that stands in the list at a place, in hex, and LF; the place after them.

@@ -1,5 +1,4 @@
-use Rattle.std.proofs.Common.{◌+◌, ◌-◌, ℕ, List, ap, ◌∙◌, refl, arith, length-drop}
-use lib.ListN.{length-take}
+use Rattle.std.proofs.Common.{◌+◌, ◌-◌, List, ℕ, length, ap, ◌∙◌, arith}
 use Rattle.std.proofs.lemmas.List.Edits.{sets}
 use Rattle.planner.proofs.Laying.{landed}
 use Rattle.entries.proofs.output.copy_line.Goals as goal
@@ -7,5 +6,7 @@ use Rattle.entries.proofs.output.copy_line.Goals as goal
 pub returns : goal.returns
 returns c =
     let a = c.args in
-    let long = simp (length-take, length-drop) at c.copy_from_slice.ensures.len in
-    (refl, landed a.out.now c.copy_from_slice.new.self a.at (a.at + a.s.len - a.at) (omega (arith, long, c.requires.1)) (omega (arith, c.requires.1)) ∙ ap (λ (l : List ℕ). sets a.out.now a.at l) c.copy_from_slice.ensures.after)
+    let held = c.as_slice-bytes.ensures.held in
+    let e = ap length held in
+    let same = c.copy_from_slice.ensures.after ∙ held in
+    (omega (arith, e), landed a.out.now c.copy_from_slice.new.self a.at _ (omega (arith, e, ap length same)) (omega (arith, e, c.requires)) ∙ ap (λ (l : List ℕ). sets a.out.now a.at l) same)

@@ -1,5 +1,0 @@
-use Rattle.entries.proofs.Putting.{put_refusal}
-use Rattle.entries.proofs.lines.refusal_line.Goals as goal
-
-pub returns : goal.returns
-returns c = put_refusal _ c.no_bytes.ensures c.put_word-s1.ensures c.put_decimal-s2.ensures c.put_word.ensures
