@@ -2,11 +2,11 @@
 use Prim.Native.Nat.{ℕ, ◌≤◌}
 use native.Mathlib.Omega.{arith}
 use mathlib.Core.Path.{◌≡◌, ap, ◌∙◌}
-use mathlib.Core.List.{List, [], ◌∷◌, ◌++◌, append-nil}
+use mathlib.Core.List.{List, [], ◌∷◌, ◌++◌}
 use lib.Dec.{eqb}
 use lib.ListN.{length, length-append}
 use Rattle.law.specs.Choice.{of_both}
-use Rattle.field.specs.Decimal.{decimal, largest}
+use Rattle.field.specs.Decimal.{largest}
 use Rattle.field.specs.Ends.{tab, lf}
 use Rattle.field.specs.Hex.{hex_field}
 use Rattle.field.specs.Spelling.{no_bytes, put_all}

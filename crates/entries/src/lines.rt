@@ -48,7 +48,10 @@ pub(crate) fn head_line(kind: Kind, high: u8, middle: u8, low: u8) -> Spelling
 pub(crate) fn cycles_line(number: u32) -> Spelling
     ensures { result ≡ put_all no_bytes (cycles_line number) }
 {
-    Spelling::new().word(b"cycles\t").decimal(number).word(b"\n")
+    Spelling::new()
+        .word(b"cycles\t")
+        .decimal(number)
+        .word(b"\n")
 }
 
 // A refusal's number.
@@ -56,5 +59,8 @@ pub(crate) fn cycles_line(number: u32) -> Spelling
 pub(crate) fn refusal_line(answer: u32) -> Spelling
     ensures { result ≡ put_all no_bytes (refusal_line answer) }
 {
-    Spelling::new().word(b"refused\t").decimal(answer).word(b"\n")
+    Spelling::new()
+        .word(b"refused\t")
+        .decimal(answer)
+        .word(b"\n")
 }
