@@ -5,6 +5,7 @@ ghost use Rattle.listing.specs.Bytes.{match_of, was_played, reply_at, match_at, 
 
 use record::{Match, Reply};
 
+// Kept: the new form is no plainer, because an impl of From for record's types has to stand in record, where nothing reads a reply's bytes.
 fn reply_of(kind: u8, value: u8, mask: u8) -> Reply
     ensures { result ≡ reply_of kind value mask }
 {
@@ -20,6 +21,7 @@ fn reply_of(kind: u8, value: u8, mask: u8) -> Reply
     }
 }
 
+// Kept: as above.
 fn match_of(number: u8) -> Match
     ensures { result ≡ match_of number }
 {

@@ -9,6 +9,7 @@ use crate::{bytes, lines};
 use field::Spelling;
 
 // The numbers of a result: its answer, its line or stamp, its count, and its field.
+// Kept: the answer is a number for what may not change, `Lists` and `ListsPages`: they tell of any four bytes that a lent result holds.
 #[derive(Clone, Copy, Debug, PartialEq, Eq)]
 pub(crate) struct Told {
     pub(crate) answer: u32,

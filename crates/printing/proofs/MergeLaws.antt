@@ -5,19 +5,18 @@ use mathlib.Core.Path.{◌≡◌, refl, ap, ◌∙◌}
 use mathlib.Core.Bool.{true}
 use Rattle.std.specs.Prelude.{Ok, Err}
 use mathlib.Core.List.{List, [], ◌∷◌, ◌++◌}
-use lib.ListN.{length, take, drop, length-append}
+use lib.ListN.{length, drop, length-append}
 use borrow.Author.Tests.{eq-eqb, le-ltb, ltb-false}
 use Rattle.record.specs.declared.LevelsAnswer.{LevelsAnswer}
 use Rattle.record.specs.declared.LevelsAnswer.TheVariants.{BadLevel, Together, TooShort}
 use Rattle.record.specs.declared.Record.{Record}
 use Rattle.record.specs.Answers.{levels_answer_number}
 use Rattle.record.specs.Lengths.{result_length}
-use Rattle.field.specs.declared.spelling.Spelling.{Spelling}
 use Rattle.field.specs.Decimal.{largest}
 use Rattle.field.specs.Room.{room}
 use Rattle.field.specs.Spelling.{no_bytes, put_all}
 use Rattle.field.proofs.DecimalLaws.{decimal_digit}
-use Rattle.field.proofs.SpellingLaws.{Holds, digits_count}
+use Rattle.field.proofs.SpellingLaws.{digits_count, holds}
 use Rattle.text.specs.Texts.{text_limit, spelled_trace}
 use Rattle.text.proofs.Fields.{field_small}
 use Rattle.level.specs.declared.Level.{Level}
@@ -32,7 +31,6 @@ use Rattle.demands.proofs.Ways.{refused_line_lem, line_number, line_fits}
 use Rattle.listing.specs.Bytes.{answer_in, place_in, count_in, field_in}
 use Rattle.listing.specs.Lines.{refused_line}
 use Rattle.listing.specs.Writing.{refusal_of, count_of}
-use Rattle.listing.proofs.Lengths.{holds}
 use Rattle.listing.proofs.Tells.{refusal_told, count_told}
 use Rattle.printing.specs.Printed.{Written}
 use Rattle.printing.specs.MergePrinted.{printed_for, is_merged, merge_room, PrintsMerge}
@@ -131,7 +129,7 @@ module _ {levels trace old mid result end : List ℕ} {answer : ℕ} (enough : m
       by (merged b rs) q s l =
           (merged b rs, q, refl, record { number = e ∙ count_told end (result_whole 0 0 (length (spelled_trace b rs)) 0 l.2) ∙ count_number s l.2; content = l.1 })
 
-  module _ (refuses : answer ≡ 0 → ⊥) {s : Spelling} (put : s ≡ put_all no_bytes (refusal_of end)) where
+  module _ (refuses : answer ≡ 0 → ⊥) {s : List ℕ} (put : s ≡ put_all no_bytes (refusal_of end)) where
     -- the line of the refusal was put together, and the output is as it was
     record Line : Type 0 where
       number : ℕ
@@ -139,8 +137,7 @@ module _ {levels trace old mid result end : List ℕ} {answer : ℕ} (enough : m
       field : ℕ
       is : Judges levels trace (refused number line field)
       stays : mid ≡ old
-      holds : Holds s (refused_line number line field)
-      short : s.len ≤ room
+      held : s ≡ refused_line number line field
 
     the_line : Line
     the_line = some by
@@ -148,22 +145,16 @@ module _ {levels trace old mid result end : List ℕ} {answer : ℕ} (enough : m
         by : (j : Judgement) → Judges levels trace j → Fits j → Left old mid end answer j → Line
         by (refused n line field) q f l =
             let told : refusal_of end ≡ refused_line n line field = refusal_told end (result_whole n line 0 field l.2) ∙ refusal_numbers f l.2 in
-            let h = holds (refused_line n line field) (put ∙ ap (put_all no_bytes) told) (line_length_lem f) in
-            record { number = n; line = line; field = field; is = q; stays = l.1; holds = h; short = omega (arith, h.len, line_length_lem f) }
+            record { number = n; line = line; field = field; is = q; stays = l.1; held = holds (refused_line n line field) (put ∙ ap (put_all no_bytes) told) (line_length_lem f) }
         by (merged b rs) q f l = absurd (refuses l.0)
 
-    pub line_whole : s.len ≤ length s.bytes
-    line_whole = omega (arith, the_line.short, the_line.holds.whole)
-
-    pub line_room : s.len ≤ length mid
-    line_room = omega (arith, the_line.short, ap length the_line.stays)
-
-    pub merge_refused : {part : List ℕ} → part ≡ take s.len s.bytes → PrintsMerge levels trace old (part ++ drop s.len mid) (Err (record { 0 = s.len }))
-    merge_refused {part} e =
+    pub merge_refused : {part : List ℕ} {n : ℕ} → part ≡ s → n ≡ length s → PrintsMerge levels trace old (part ++ drop n mid) (Err (record { 0 = n }))
+    merge_refused {part} {n} e m =
         let k = the_line in
-        let h = k.holds in
+        let w : part ≡ refused_line k.number k.line k.field = e ∙ k.held in
+        let c : n ≡ length (refused_line k.number k.line k.field) = m ∙ ap length k.held in
         record {
-          written = λ _. (refused k.number k.line k.field, k.is, refl, record { number = h.len; content = λ i. (e ∙ h.bytes) i ++ drop (h.len i) (k.stays i) });
+          written = λ _. (refused k.number k.line k.field, k.is, refl, record { number = c; content = λ i. w i ++ drop (c i) (k.stays i) });
           short = λ l. absurd (omega arith);
         }
 

@@ -2,7 +2,7 @@
 // the call left is listed.
 #![tactic(auto)]
 
-ghost use Rattle.std.specs.Prelude.{◌≡◌, ◌≤◌, length, take};
+ghost use Rattle.std.specs.Prelude.{◌≡◌, ◌≤◌, length, take, replicate};
 ghost use Rattle.image.specs.Image.{image_of};
 ghost use Rattle.printing.specs.Printed.{dump_of, dumps_of, Prints, PrintsPages};
 ghost use Rattle.printing.specs.Lending.{lent_for, LeftFor};
@@ -11,21 +11,36 @@ mod merge;
 
 pub use merge::{MERGE_ROOM, Unmerged, print_merge};
 
-// Puts a dump into the image that stands for it, and makes it sure: no bit is in doubt. So many bytes of the image are to be lent. Without a dump the image stays as it
-// is, and of a dump of another length nothing is lent: the call refuses that.
-#[tactic(auto, unfolding(crate::specs::Lending::lent_for))]
-fn take_dump(dump: Option<&[u8]>, image: &mut [u8], mask: &mut [u8]) -> usize
-    ensures { (result ≤ length image.new) × (image_of (take result image.new) mask.new ≡ lent_for (dump_of dump.entry) (image_of image.old mask.old)) }
-{
-    let Some(dump) = dump else {
-        return image.len();
-    };
-    if dump.len() != image.len() {
-        return 0;
+// The image that stands for a dump, of which so many bytes are to be lent.
+#[derive(Drop)]
+struct DumpImage<const N: usize> {
+    image: [u8; N],
+    mask: [u8; N],
+    len: usize,
+}
+
+impl<const N: usize> DumpImage<N> {
+    // Without a dump all is 00 with mask ff. A dump is taken as sure: no bit is in doubt; of one of another length nothing is lent, and the call refuses that.
+    #[tactic(auto, unfolding(crate::specs::Lending::lent_for))]
+    fn new(dump: Option<&[u8]>) -> DumpImage<N>
+        ensures { (result.len ≤ N) × (image_of (take result.len result.image) result.mask ≡ lent_for (dump_of dump.entry) (image_of (replicate N 0) (replicate N 255))) }
+    {
+        let mut lent = DumpImage {
+            image: [0; N],
+            mask: [255; N],
+            len: N,
+        };
+        let Some(dump) = dump else {
+            return lent;
+        };
+        if dump.len() != N {
+            lent.len = 0;
+            return lent;
+        }
+        lent.image.copy_from_slice(dump);
+        lent.mask.fill(0);
+        lent
     }
-    image.copy_from_slice(dump);
-    mask.fill(0);
-    image.len()
 }
 
 // What the call leaves of a text and of dumps.
@@ -40,22 +55,19 @@ struct Left {
 fn replay(text: &[u8], flash: Option<&[u8]>, eeprom: Option<&[u8]>) -> Left
     ensures { LeftFor text.now (dumps_of flash.entry eeprom.entry) result.times result.replies result.result }
 {
-    // Without a dump all is 00 with mask ff.
-    let mut flash_image = [0u8; image::FLASH_KEPT];
-    let mut flash_mask = [255u8; image::FLASH_KEPT];
-    let flash_lent = take_dump(flash, &mut flash_image, &mut flash_mask);
-    let mut eeprom_image = [0u8; image::EEPROM_KEPT];
-    let mut eeprom_mask = [255u8; image::EEPROM_KEPT];
-    let eeprom_lent = take_dump(eeprom, &mut eeprom_image, &mut eeprom_mask);
+    let mut flash: DumpImage<{ image::FLASH_KEPT }> = DumpImage::new(flash);
+    let mut eeprom: DumpImage<{ image::EEPROM_KEPT }> = DumpImage::new(eeprom);
+    let flash_len = flash.len;
+    let eeprom_len = eeprom.len;
     let mut times = [0u8; times::TIMES];
     let mut replies = [0u8; record::REPLIES];
     let mut result = [0u8; record::RESULT];
     desk::hazelcrook_replay(
         text,
-        &mut flash_image[..flash_lent],
-        &mut flash_mask,
-        &mut eeprom_image[..eeprom_lent],
-        &mut eeprom_mask,
+        &mut flash.image[..flash_len],
+        &mut flash.mask,
+        &mut eeprom.image[..eeprom_len],
+        &mut eeprom.mask,
         &mut times,
         &mut replies,
         &mut result,

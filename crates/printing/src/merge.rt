@@ -24,8 +24,8 @@ pub fn print_merge(levels: &[u8], trace: &[u8], out: &mut [u8]) -> Result<usize,
         return Ok(listing::count_of(&result) as usize);
     }
     let line = listing::refusal_of(&result);
-    let bytes = line.bytes;
-    let len = line.len;
-    out[..len].copy_from_slice(&bytes[..len]);
+    let bytes = line.as_slice();
+    let len = bytes.len();
+    out[..len].copy_from_slice(bytes);
     Err(Unmerged(len))
 }
