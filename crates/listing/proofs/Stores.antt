@@ -1,12 +1,11 @@
 -- Runs of stores, one after the other.
 use mathlib.Core.Path.{◌≡◌, sym, ap, ap₂, ◌∙◌}
 use mathlib.Core.List.{List, [], ◌∷◌, ◌++◌, append_assoc}
-use Prim.Native.Nat.{ℕ, suc, ◌+◌, ◌≤◌, ◌<◌}
+use Prim.Native.Nat.{ℕ, suc, ◌+◌, ◌≤◌}
 use native.Mathlib.Nat.{add-zero, add-suc, suc-add, zero-add}
-use native.Mathlib.Numerals.{add-one}
 use native.Mathlib.Omega.{arith}
-use lib.ListN.{length, set, take, drop, get_or}
-use lib.Seq.{sets, sets-eq, take-suc, length-take-le, drop-drop}
+use lib.ListN.{length, set, take, drop}
+use lib.Seq.{sets, sets-eq, drop-drop}
 use borrow.Rule.Slice.PartMut.{put_mid}
 
 -- two runs, the second where the first ends, are one
@@ -15,14 +14,6 @@ joined [] ws l i = ap (λ (k : ℕ). sets l k ws) (add-zero i)
 joined (a ∷ vs) ws l i =
     ap (λ (k : ℕ). sets (sets (set l i a) (suc i) vs) k ws) (add-suc i (length vs) ∙ sym (suc-add i (length vs)))
     ∙ joined vs ws (set l i a) (suc i)
-
--- one more store of a copy
-pub one_more : (l s m : List ℕ) (at k : ℕ) → k < length s → m ≡ sets l at (take k s) → set m (at + k) (get_or s k 0) ≡ sets l at (take (k + 1) s)
-one_more l s m at k h e =
-    let n : length (take k s) ≡ k = length-take-le k s (omega arith) in
-    ap₂ (λ (x : List ℕ) (j : ℕ). set x (at + j) (get_or s k 0)) e (sym n)
-    ∙ joined (take k s) (get_or s k 0 ∷ []) l at
-    ∙ ap (sets l at) (sym (ap (λ (j : ℕ). take j s) (add-one k) ∙ take-suc s k 0 h))
 
 -- from the front on: ws after vs
 pub then : (vs ws old new : List ℕ) {m : List ℕ} {at : ℕ} → m ≡ sets old 0 vs → at ≡ length vs → new ≡ sets m at ws → new ≡ sets old 0 (vs ++ ws)
