@@ -1,6 +1,7 @@
 -- No line of a listing is longer than a spelling has room for, so a line that was put together holds just its bytes.
 use Prim.Native.Nat.{ℕ, ◌≤◌}
 use native.Mathlib.Omega.{arith}
+use borrow.Author.Rules.{rules}
 use mathlib.Core.Path.{◌≡◌, refl, ap}
 use mathlib.Core.Bool.{true}
 use mathlib.Core.List.{List}
@@ -10,9 +11,7 @@ use borrow.Author.Tests.{eqb-true, leb-true}
 use Rattle.law.specs.Choice.{of_both, split}
 use Rattle.record.specs.declared.Chip.{Chip}
 use Rattle.record.specs.declared.Reply.{Reply}
-use Rattle.record.specs.declared.Reply.TheVariants.{NotPlayed, Silent, Byte, Ack, NoAck, Starts, Ends, NoCycle}
 use Rattle.record.specs.declared.Match.{Match}
-use Rattle.record.specs.declared.Match.TheVariants.{Nothing, Agrees, Disagrees}
 use Rattle.field.specs.Decimal.{largest}
 use Rattle.field.specs.Hex.{hex_field}
 use Rattle.field.specs.Room.{room}
@@ -29,20 +28,11 @@ heading_length = refl
 
 reply_length : (r : Reply) → length (reply_text r) ≤ 6
 unfolding reply_text byte_text hex_field
-reply_length NotPlayed = omega arith
-reply_length Silent = omega arith
-reply_length (Byte v m) = omega arith
-reply_length Ack = omega arith
-reply_length NoAck = omega arith
-reply_length Starts = omega arith
-reply_length Ends = omega arith
-reply_length NoCycle = omega arith
+reply_length r = search rules
 
 match_length : (m : Match) → length (match_text m) ≤ 1
 unfolding match_text
-match_length Nothing = omega arith
-match_length Agrees = omega arith
-match_length Disagrees = omega arith
+match_length m = search rules
 
 module _ (a b : ℕ) (small : a ≤ largest) (little : b ≤ largest) where
   pub record_length : (r : Reply) (m : Match) → length (record_line a b r m) ≤ room
@@ -78,8 +68,7 @@ unfolding pages_heading
 pages_heading_length = refl
 
 chip_length : (chip : Chip) → length (chip_text chip) ≤ 6
-chip_length Chip.Flash = omega arith
-chip_length Chip.Eeprom = omega arith
+chip_length chip = search rules
 
 pub page_length : (chip : Chip) (n stamp : ℕ) → n ≤ largest → stamp ≤ largest → length (page_line chip n stamp) ≤ room
 unfolding page_line

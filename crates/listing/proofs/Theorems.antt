@@ -2,8 +2,9 @@
 -- a reply and of a number are read as that reply and that number.
 use Prim.Native.Nat.{ℕ, suc, ◌+◌, ◌*◌, ◌/◌, ◌%◌}
 use native.Mathlib.Omega.{arith}
+use borrow.Author.Rules.{rules}
 use native.Mathlib.Nat.{add-zero}
-use mathlib.Core.Path.{◌≡◌, refl, sym, ap, ap₂, subst, ◌∙◌}
+use mathlib.Core.Path.{◌≡◌, sym, ap, ap₂, subst, ◌∙◌}
 use mathlib.Core.Bool.{Bool}
 use mathlib.Core.List.{List, [], ◌∷◌, ◌++◌}
 use lib.ListN.{length, drop, get_or, length-append}
@@ -70,9 +71,7 @@ module _ (text replies : List ℕ) where
 
 -- ---- bytes
 match_back : (m : Match) → match_of (match_number m) ≡ m
-match_back Match.Nothing = refl
-match_back Match.Agrees = refl
-match_back Match.Disagrees = refl
+match_back m = search rules
 
 -- the four bytes of a reply, at their place, are read as that reply with that match
 module _ (before rest : List ℕ) (k : ℕ) (r : Reply) (m : Match) (here : length before ≡ 4 * k) where
