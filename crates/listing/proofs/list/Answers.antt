@@ -10,9 +10,6 @@ use Rattle.listing.proofs.list.Goals as goal
 pub returns-in_default : goal.returns-in_default
 returns-in_default c = lists (λ lines. other_result _ _ _ _ _ (untold _ (sym c.of.ensures ∙ c.in_default.is)))
 
-pub copy_line-requires : goal.copy_line-requires
-copy_line-requires c = omega arith
-
 pub returns-then-refuses : goal.returns-then-refuses
 returns-then-refuses c =
     let l = line_written _ _ _ _ _ c.refused_line.ensures (refused_length _ _ _ (via c.refuses.ensures c.if-refuses.true) (search rules) (search rules)) c.copy_line.ensures.0 c.copy_line.ensures.1 in

@@ -14,9 +14,6 @@ returns-in_default c = over c.loop-k.invariant (λ r o s. absurd (got_none tells
 pub returns-then-not-was_played : goal.returns-then-not-was_played
 returns-then-not-was_played c = unplayed c.loop-k.invariant c.reply_at-reply.ensures c.was_played.ensures c.if-not-was_played.true
 
-pub copy_line-at-requires : goal.copy_line-at-requires
-copy_line-at-requires c = omega (arith, c.loop-k.invariant.space)
-
 pub loop-k-preserved : goal.loop-k-preserved
 loop-k-preserved c = onward c.loop-k.invariant c.reply_at-reply.ensures c.was_played.ensures c.if-not-was_played.false (got_one tells_got c.record_at.ensures _ _ c.in-Ok.is) c.match_at.ensures c.loop-k-test.true c.record_line-line.ensures c.copy_line-at.ensures.0 c.copy_line-at.ensures.1
 
