@@ -43,7 +43,9 @@ pub fn play_levels(
     }
     let both = match judge::judge(levels, trace) {
         Ok(both) => both,
-        Err(no) => return buffers::put_answer(res, no.answer.into(), no.line, 0, no.field),
+        Err(refused) => {
+            return buffers::put_answer(res, refused.answer.into(), refused.line, 0, refused.field);
+        }
     };
     let all = Weave::new(levels, trace, both.level, both.at, both.first);
     let mut images = LentImages {

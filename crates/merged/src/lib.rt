@@ -6,7 +6,7 @@ ghost use Rattle.text.specs.Texts.{text_limit};
 ghost use Rattle.merged.specs.Merging.{outputs_of, wrote_as, Merges};
 ghost use Rattle.merged.specs.Writing.{HasRoom, WritesLine, WritesAll, WritesText};
 
-use level::Level;
+use judge::Accepted;
 use record::{Answer, Board, LevelsAnswer, Record};
 use weave::Weave;
 
@@ -19,15 +19,15 @@ const BOARD_LINE: usize = 13;
 pub const ROOM: usize = 540553;
 
 // Whether so many bytes have room for the text. Lines are only counted where they may not have it. No order is asked: behind the first line of each text every line is read once.
-fn has_room(levels: &[u8], trace: &[u8], a: Level, at: usize, first: usize, bytes: usize) -> bool
+fn has_room(levels: &[u8], trace: &[u8], both: Accepted, bytes: usize) -> bool
     requires { (length levels.now ≤ text_limit) × (length trace.now ≤ text_limit) }
-    ensures { HasRoom levels.now trace.now a at first bytes result }
+    ensures { HasRoom levels.now trace.now both.level both.at both.first bytes result }
 {
     if ROOM <= bytes {
         return true;
     }
-    let decoded = length::levels_length(levels, a, at);
-    let taken = length::taken_length(trace, first);
+    let decoded = length::levels_length(levels, both.level, both.at);
+    let taken = length::taken_length(trace, both.first);
     BOARD_LINE + decoded + taken <= bytes
 }
 
@@ -71,9 +71,11 @@ pub fn merge(levels: &[u8], trace: &[u8], output: &mut [u8], res: &mut [u8]) -> 
     }
     let both = match judge::judge(levels, trace) {
         Ok(both) => both,
-        Err(no) => return buffers::put_answer(res, no.answer.into(), no.line, 0, no.field),
+        Err(refused) => {
+            return buffers::put_answer(res, refused.answer.into(), refused.line, 0, refused.field);
+        }
     };
-    if !has_room(levels, trace, both.level, both.at, both.first, output.len()) {
+    if !has_room(levels, trace, both, output.len()) {
         return buffers::put_answer(res, LevelsAnswer::TooShort.into(), 0, 0, 0);
     }
     let all = Weave::new(levels, trace, both.level, both.at, both.first);

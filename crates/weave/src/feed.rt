@@ -20,7 +20,7 @@ pub trait Source: Copy {
 }
 
 // Behind a line of the capture: the place of the next line, the line itself, the bits so far, and what the line still gives.
-#[derive(Clone, Copy)]
+#[derive(Clone, Copy, Debug, PartialEq, Eq)]
 pub struct Behind {
     pub at: usize,
     pub last: Level,
@@ -29,7 +29,7 @@ pub struct Behind {
 }
 
 // In the logger's trace, and which part of what is taken from it.
-#[derive(Clone, Copy)]
+#[derive(Clone, Copy, Debug, PartialEq, Eq)]
 pub struct Within {
     pub part: Part,
     pub at: usize,

@@ -23,6 +23,7 @@ pub const MOST: usize = 25740;
 pub const ABOVE: u64 = 12884901888;
 
 // Both texts, and the feeds; before these the numbers of their heads, so that the search for the next one looks at no feed.
+// Kept: the numbers stand beside the feeds, since feeds of two types are in no array: with its number in each, they would be gathered anew for each record.
 #[derive(Clone, Copy)]
 pub struct Weave<'a> {
     pub levels: &'a [u8],
@@ -36,6 +37,7 @@ pub struct Weave<'a> {
 }
 
 // By stamp, and at one stamp F, E, L.
+// Kept: a derived order would tell events of one channel apart too, where the first feed comes first; and numbers are compared at once.
 fn number_of(r: Record) -> u64
     ensures { result ≡ number_of r }
 {
