@@ -47,11 +47,11 @@ played_one b c c' x x' times times' old new number n count t r y p e hp ht h =
     λ i. desk_of (hp i).controls (hp i).images (f i) (g i) (e i) (k i)
 
 module _ (b : Board) where
-  -- a record more is played: what is left to play gives the whole
-  pub round : (records : List Record) (k : ℕ) (d₀ d d' : Desk) (x : Record) → k < length records → d' ≡ step_desk b d (get_or records k x) →
+  -- a record more is played, on the same board: what is left to play gives the whole
+  pub round : (records : List Record) (k : ℕ) (d₀ d d' : Desk) (b' : Board) (x : Record) → k < length records → b' ≡ b → d' ≡ step_desk b' d (get_or records k x) →
       run_desk b (drop k records) d ≡ run_desk b records d₀ → run_desk b (drop (k + 1) records) d' ≡ run_desk b records d₀
   unfolding run_desk
-  round records k d₀ d d' x h e q = rw (e, add-one) (rw (drop-cons records k x h) at q)
+  round records k d₀ d d' b' x h s e q = rw (e, s, add-one) (rw (drop-cons records k x h) at q)
 
   pub turned : (records : List Record) (k : ℕ) (d₀ d : Desk) → length records ≤ k → run_desk b (drop k records) d ≡ run_desk b records d₀ → d ≡ run_desk b records d₀
   unfolding run_desk

@@ -1,219 +1,118 @@
-// The replay on the caller's own buffers, which the desk's viewer, a C program, calls by the crate desk_c. And the plan, the merge and the second engine, for the repair shop's programs: all that is exported stands here.
+// The replay on the caller's own buffers, and what else the desk's viewer and the repair shop's programs call: the page view, the plan, the merge and the second engine. The crate desk_c exports each for C.
 // A stamp is judged before a byte of it is played, so nothing is ever undone and no image is copied.
 #![tactic(auto)]
 
-ghost use Rattle.std.specs.Prelude.{◌≡◌, ◌+◌, ◌≤◌, min, length, take, replicate};
-ghost use Rattle.meaning.specs.Channels.{most_in_all};
+ghost use Rattle.std.specs.Prelude.{◌≡◌, ◌+◌, ◌≤◌, length, replicate};
 ghost use Rattle.text.specs.Texts.{text_limit};
-ghost use Rattle.image.specs.Images.{images_of, per_chip};
+ghost use Rattle.image.specs.Images.{per_chip};
 ghost use Rattle.image.specs.View.{view_place, view_length};
 ghost use Rattle.record.specs.Lengths.{replies_length, result_length};
 ghost use Rattle.times.specs.Times.{times_length};
 ghost use Rattle.buffers.specs.Buffers.{buffers_of, result_after};
 ghost use Rattle.record.specs.Answers.{answer_number};
-ghost use Rattle.call.specs.Play.{twos, reply_line};
-ghost use Rattle.call.specs.Steps.{desk_of, run_desk};
-ghost use Rattle.buffers.specs.Put.{replies_with};
-ghost use Rattle.machine.specs.Replies.{compared};
+ghost use Rattle.machine.specs.Lent.{images_in};
+ghost use Rattle.machine.specs.Lent as lent;
+ghost use Rattle.call.specs.Steps.{step_desk, run_desk};
 ghost use Rattle.call.specs.Replay.{ended_as, Replays, chip_of};
-ghost use Rattle.call.specs.Run.{ended_with, Runs, goes_on};
-ghost use Rattle.orders.specs.Verdicts.{verdict_answer};
+ghost use Rattle.call.specs.Run.{ended_with, Runs, Stops};
+ghost use Rattle.desk.specs.Desk.{desk_in, buffers_left, Keeps, IsFresh};
 ghost use Rattle.fewest.specs.Call.{left_as, Plans};
 ghost use Rattle.merged.specs.Merging.{outputs_of, wrote_as, Merges};
 ghost use Rattle.engine.specs.Playing.{lent_of, played_as, Plays};
 
 use controls::Controls;
+use machine::LentImages;
 use orders::Verdict;
-use record::{Answer, Board, Chip, Match, Record, Reply};
-use text::Checked;
+use record::{Answer, Board, Chip, Match, Record};
+use text::Refusal;
 
-// 1 for a match 2, that is a reply that disagrees.
-fn two(m: Match) -> u32
-    ensures { result ≡ twos m }
-{
-    match m {
-        Match::Nothing => 0,
-        Match::Agrees => 0,
-        Match::Disagrees => 1,
-    }
-}
-
-// A reply is compared and written; 1 where it disagrees.
-fn put_compared(rec: Record, number: usize, reply: Reply, replies: &mut [u8]) -> u32
-    ensures replies_after { (replies.new ≡ replies_with number (reply_line rec reply) replies.old) × (result ≡ twos (compared rec.event reply)) }
-    ensures upper_bound { result ≤ 1 }
-{
-    let event = rec.event;
-    let m = machine::compare(event, reply);
-    buffers::put_reply(replies, number, reply, m);
-    two(m)
-}
-
+// The desk while records are played as they are written: what is lent, how many records were played, and how many replies disagree.
 #[derive(Drop)]
-struct Done {
-    controls: Controls,
-    number: usize,
-    count: u32,
-}
-
-// The records of one stamp, as they are written.
-fn play_all(
+struct Desk<'b, 'i> {
     board: Board,
     controls: Controls,
-    records: [Record; orders::MOST_IN_ALL],
-    many: usize,
+    images: &'b mut LentImages<'i>,
+    times: &'b mut [u8],
+    replies: &'b mut [u8],
     number: usize,
     count: u32,
-    flash: &mut [u8],
-    flash_mask: &mut [u8],
-    eeprom: &mut [u8],
-    eeprom_mask: &mut [u8],
-    times: &mut [u8],
-    replies: &mut [u8],
-) -> Done
-    requires { (many ≤ most_in_all) × (count ≤ 500000) × (number ≤ 500000) }
-    ensures count_after { desk_of result.controls (images_of flash.new flash_mask.new eeprom.new eeprom_mask.new) times.new replies.new result.number result.count
-        ≡ run_desk board (take many records) (desk_of controls (images_of flash.old flash_mask.old eeprom.old eeprom_mask.old) times.old replies.old number count) }
-    ensures number_bound { (result.number ≤ number + most_in_all) × (result.count ≤ count + most_in_all) }
-{
-    let mut cur = controls;
-    let mut c = count;
-    let mut k: usize = 0;
-    while k < many {
-        let rec = records[k];
-        let played = machine::play(board, cur, rec, flash, flash_mask, eeprom, eeprom_mask);
-        let touched = played.touched;
-        times::put_times(times, rec.stamp, touched);
-        let reply = played.reply;
-        c += put_compared(rec, number + k, reply, replies);
-        cur = played.controls;
-        k += 1;
-    }
-    Done {
-        controls: cur,
-        number: number + k,
-        count: c,
-    }
 }
 
 // How the loop over the stamps ends.
-#[derive(Drop)]
+#[derive(Clone, Copy)]
 struct End {
     answer: Answer,
     stamp: u32,
-    count: u32,
 }
 
-fn stop_of(v: Verdict) -> Answer
-    ensures { result ≡ verdict_answer v }
+// What a verdict ends the replay with, where it does.
+fn stop_of(v: Verdict) -> Option<Answer>
+    ensures { Stops v result }
 {
     match v {
-        Verdict::Crowded => Answer::Crowded,
-        Verdict::Differ => Answer::OrdersDiffer,
-        Verdict::Lost => Answer::StatusLost,
-        Verdict::Passes => Answer::Settled,
+        Verdict::Crowded => Some(Answer::Crowded),
+        Verdict::Differ => Some(Answer::OrdersDiffer),
+        Verdict::Lost => Some(Answer::StatusLost),
+        Verdict::Passes => None,
     }
 }
 
-fn passes(v: Verdict) -> bool
-    ensures { result ≡ goes_on v }
-{
-    match v {
-        Verdict::Crowded => false,
-        Verdict::Differ => false,
-        Verdict::Lost => false,
-        Verdict::Passes => true,
+impl Desk<'_, '_> {
+    // A record; the pages' times and the reply are written.
+    fn play(&mut self, rec: Record)
+        requires { (self.old.number ≤ 1000000) × (self.old.count ≤ 1000000) }
+        ensures keeps { Keeps self.old self.new }
+        ensures steps { desk_in self.new ≡ step_desk self.old.board (desk_in self.old) rec }
+        ensures counts { (self.new.number ≡ self.old.number + 1) × (self.new.count ≤ self.old.count + 1) }
+    {
+        let played = machine::play(self.board, self.controls, rec, self.images);
+        times::put_times(self.times, rec.stamp, played.touched);
+        let found = machine::compare(rec.event, played.reply);
+        let number = self.number;
+        buffers::put_reply(self.replies, number, played.reply, found);
+        self.controls = played.controls;
+        self.number = number + 1;
+        self.count += u32::from(found == Match::Disagrees);
     }
-}
 
-// No more than may share a stamp.
-fn at_most(n: usize) -> usize
-    ensures { result ≡ min n most_in_all }
-{
-    if n < orders::MOST_IN_ALL {
-        n
-    } else {
-        orders::MOST_IN_ALL
-    }
-}
-
-// Stamp by stamp: judged on the controls, then played. A stamp of one record, as most are, is played without a loop of its own.
-fn run(
-    text: &[u8],
-    first: usize,
-    board: Board,
-    flash: &mut [u8],
-    flash_mask: &mut [u8],
-    eeprom: &mut [u8],
-    eeprom_mask: &mut [u8],
-    times: &mut [u8],
-    replies: &mut [u8],
-) -> End
-    requires { length text.now ≤ text_limit }
-    ensures { Runs text.now first board (images_of flash.old flash_mask.old eeprom.old eeprom_mask.old) times.old replies.old
-        (ended_with result.answer result.stamp result.count (images_of flash.new flash_mask.new eeprom.new eeprom_mask.new) times.new replies.new) }
-{
-    let mut cur = Controls::start(board);
-    let mut place = first;
-    let mut number: usize = 0;
-    let mut count: u32 = 0;
-    while place < text.len() {
-        let j = stamps::judge_at(text, place, board, cur);
-        let verdict = j.verdict;
-        if !passes(verdict) {
-            return End {
-                answer: stop_of(verdict),
-                stamp: j.stamp,
-                count: count,
-            };
+    // The records of one stamp, as they are written.
+    fn play_all(&mut self, records: &[Record])
+        requires { (self.old.number + length records.now ≤ 1000000) × (self.old.count + length records.now ≤ 1000000) }
+        ensures keeps { Keeps self.old self.new }
+        ensures runs { desk_in self.new ≡ run_desk self.old.board records.now (desk_in self.old) }
+        ensures counts { (self.new.number ≤ self.old.number + length records.now) × (self.new.count ≤ self.old.count + length records.now) }
+    {
+        for rec in records {
+            self.play(*rec);
         }
-        let records = j.records;
-        if j.count == 1 {
-            let alone = records[0];
-            let played = machine::play(board, cur, alone, flash, flash_mask, eeprom, eeprom_mask);
-            let touched = played.touched;
-            times::put_times(times, alone.stamp, touched);
-            let reply = played.reply;
-            count += put_compared(alone, number, reply, replies);
-            cur = played.controls;
-            number += 1;
+    }
+
+    // Stamp by stamp: judged on the controls, then played.
+    fn run(&mut self, text: &[u8], first: usize) -> End
+        requires short { length text.now ≤ text_limit }
+        requires fresh { IsFresh self.old }
+        ensures keeps { Keeps self.old self.new }
+        ensures runs { Runs text.now first self.old.board (images_in self.old.images.now) self.old.times.now self.old.replies.now
+            (ended_with result.answer result.stamp self.new.count (images_in self.new.images.now) self.new.times.now self.new.replies.now) }
+    {
+        let mut place = first;
+        while place < text.len() {
+            let j = stamps::judge_at(text, place, self.board, self.controls);
+            if let Some(answer) = stop_of(j.verdict) {
+                return End {
+                    answer,
+                    stamp: j.stamp,
+                };
+            }
+            let many = j.count.min(orders::MOST_IN_ALL);
+            self.play_all(&j.records[..many]);
             place = j.next;
-            continue;
         }
-        let many = at_most(j.count);
-        let done = play_all(
-            board,
-            cur,
-            records,
-            many,
-            number,
-            count,
-            flash,
-            flash_mask,
-            eeprom,
-            eeprom_mask,
-            times,
-            replies,
-        );
-        cur = done.controls;
-        number = done.number;
-        count = done.count;
-        place = j.next;
+        End {
+            answer: Answer::Settled,
+            stamp: 0,
+        }
     }
-    End {
-        answer: Answer::Settled,
-        stamp: 0,
-        count: count,
-    }
-}
-
-// A refusal writes only the result: the answer, the line, no count, the field.
-fn refuse(res: &mut [u8], answer: Answer, line: usize, field: u32) -> u32
-    ensures { (result ≡ answer_number answer) × (res.new ≡ result_after (answer_number answer) line 0 field res.old) }
-{
-    let number = record::answer_number(answer);
-    buffers::put_result(res, number, line, 0, field);
-    number
 }
 
 // A readable text on buffers that fit.
@@ -221,36 +120,51 @@ fn replay(
     text: &[u8],
     first: usize,
     board: Board,
-    flash: &mut [u8],
-    flash_mask: &mut [u8],
-    eeprom: &mut [u8],
-    eeprom_mask: &mut [u8],
+    images: &mut LentImages<'_>,
     times: &mut [u8],
     replies: &mut [u8],
     res: &mut [u8],
 ) -> u32
-    requires { (length text.now ≤ text_limit) × (length times.old ≡ times_length) × (length replies.old ≡ replies_length) × (length res.old ≡ result_length) }
-    ensures { Runs text.now first board (images_of flash.old flash_mask.old eeprom.old eeprom_mask.old) (replicate times_length 0) (replicate replies_length 0)
-        (ended_as result (buffers_of flash.new flash_mask.new eeprom.new eeprom_mask.new times.new replies.new res.new)) }
+    requires short { length text.now ≤ text_limit }
+    requires fits { (length times.old ≡ times_length) × (length replies.old ≡ replies_length) × (length res.old ≡ result_length) }
+    ensures keeps { lent.Keeps images.old images.new }
+    ensures runs { Runs text.now first board (images_in images.old) (replicate times_length 0) (replicate replies_length 0)
+        (ended_as result (buffers_left images.new times.new replies.new res.new)) }
 {
     buffers::clear_all(times);
     buffers::clear_all(replies);
-    let end = run(
-        text,
-        first,
+    let mut desk = Desk {
         board,
-        flash,
-        flash_mask,
-        eeprom,
-        eeprom_mask,
+        controls: Controls::start(board),
+        images,
         times,
         replies,
-    );
-    let answer = end.answer;
-    let number = record::answer_number(answer);
-    let stamp = end.stamp as usize;
-    buffers::put_result(res, number, stamp, end.count, 0);
-    number
+        number: 0,
+        count: 0,
+    };
+    let end = desk.run(text, first);
+    buffers::put_answer(res, u32::from(end.answer), end.stamp as usize, desk.count, 0)
+}
+
+// A refusal writes only the result: the answer, the line, no count, the field.
+fn refuse(res: &mut [u8], refusal: Refusal) -> u32
+    ensures { (result ≡ answer_number refusal.answer) × (res.new ≡ result_after (answer_number refusal.answer) refusal.line 0 refusal.field res.old) }
+{
+    buffers::put_answer(res, u32::from(refusal.answer), refusal.line, 0, refusal.field)
+}
+
+// A refusal of the whole call, with no line.
+fn refuse_whole(res: &mut [u8], answer: Answer) -> u32
+    ensures { (result ≡ answer_number answer) × (res.new ≡ result_after (answer_number answer) 0 0 0 res.old) }
+{
+    refuse(
+        res,
+        Refusal {
+            answer,
+            line: 0,
+            field: 0,
+        },
+    )
 }
 
 // The call: document 01's table of answers 0 to 8, on the caller's own buffers; with the pages' times, and a 3 with its field (document 02, requests 1/12 and 2/12).
@@ -269,36 +183,30 @@ pub fn hazelcrook_replay(
         (ended_as result (buffers_of flash.new flash_mask.new eeprom.new eeprom_mask.new times.new replies.new res.new)) }
 {
     if !buffers::fits_all(flash, flash_mask, eeprom, eeprom_mask, times, replies, res) {
-        return refuse(res, Answer::BadBuffers, 0, 0);
+        return refuse_whole(res, Answer::BadBuffers);
     }
     if text::too_long(text) {
-        return refuse(res, Answer::TooLong, 0, 0);
+        return refuse_whole(res, Answer::TooLong);
     }
-    let checked = text::check_text(text);
-    match checked {
-        Checked::Readable(board, first) => replay(
-            text,
-            first.at,
-            board,
-            flash,
-            flash_mask,
-            eeprom,
-            eeprom_mask,
-            times,
-            replies,
-            res,
-        ),
-        Checked::Refused(answer, line, field) => refuse(res, answer, line, field),
+    match text::check_text(text) {
+        Ok((board, first)) => {
+            let mut images = LentImages {
+                flash,
+                flash_mask,
+                eeprom,
+                eeprom_mask,
+            };
+            replay(text, first.at, board, &mut images, times, replies, res)
+        }
+        Err(refusal) => refuse(res, refusal),
     }
 }
 
+// Kept: C gives a chip as a number, and any number names one (call's chip_of): there is none that a TryFrom would refuse.
 fn chip_of(chip: u32) -> Chip
     ensures { result ≡ chip_of chip }
 {
-    if chip == 0 {
-        return Chip::Flash;
-    }
-    Chip::Eeprom
+    if chip == 0 { Chip::Flash } else { Chip::Eeprom }
 }
 
 // Where a page stands in its image, by the images' lengths: the page view for a C caller.

@@ -1,0 +1,2 @@
+-- The desk as the code holds it.
+pub mod Desk
