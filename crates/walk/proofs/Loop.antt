@@ -58,9 +58,9 @@ module _ (text : List ℕ) (first : ℕ) (b : Board) (x : Images) (times replies
             rw s (reaching_stops text b rs x q (replies_fit q short) place _ r c refl j k g);
       }
 
-      pub comes_next : goes_on j.verdict ≡ true → (d : Desk) (n : ℕ) → n ≡ min j.count most_in_all → d ≡ run_desk b (take n j.records) (desk_of c y noted old number count) → ComesTo j.next d
+      pub comes_next : goes_on j.verdict ≡ true → (d : Desk) (n : ℕ) → n ≡ min j.records.count most_in_all → d ≡ run_desk b (take n j.records.records) (desk_of c y noted old number count) → ComesTo j.next d
       unfolding ComesTo
       comes_next g d n m s rs q h w z =
           let r = here rs q h w z in
           let k = found_at judges r.rest r.ok r.left inside in
-          reaching_passes text b rs x q (replies_fit q short) place _ r c refl j k g d (s ∙ ap (λ (k : ℕ). run_desk b (take k j.records) (desk_of c y noted old number count)) m)
+          reaching_passes text b rs x q (replies_fit q short) place _ r c refl j k g d (s ∙ ap (λ (k : ℕ). run_desk b (take k j.records.records) (desk_of c y noted old number count)) m)

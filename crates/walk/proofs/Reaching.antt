@@ -219,12 +219,12 @@ module _ (text : List ℕ) (b : Board) (rs : List Record) (lent : Images) (reada
           let l : sum (λ c. length (of (on_machine b) c p)) ≤ most_in_all = sum_most (λ c. length (of (on_machine b) c p)) most (few_each b x.held p x.rest j.stamp x.holds x.same higher k) in
           omega (arith, n, l)
 
-      written_is : Few x.held → take (min j.count most_in_all) j.records ≡ p
+      written_is : Few x.held → take (min j.records.count most_in_all) j.records.records ≡ p
       written_is k =
           let l = short k in
           let c = x.written.counts in
-          let n : min j.count most_in_all ≡ j.count = omega (arith, l, c) in
-          ap (λ (i : ℕ). take i j.records) n ∙ holds_all most_in_all j.count j.records p x.written (omega (arith, l, c))
+          let n : min j.records.count most_in_all ≡ j.records.count = omega (arith, l, c) in
+          ap (λ (i : ℕ). take i j.records.records) n ∙ holds_all most_in_all j.records.count j.records.records p x.written (omega (arith, l, c))
 
       apart_next : All (λ (s : Record). All (λ (u : Record). s.stamp < u.stamp) x.rest) (r.done ++ p)
       apart_next =
@@ -232,7 +232,7 @@ module _ (text : List ℕ) (b : Board) (rs : List Record) (lent : Images) (reada
           (all_map _ _ (λ s k. all_behind _ p x.rest (subst (All (λ (u : Record). s.stamp < u.stamp)) x.whole k)) r.done r.apart)
           (all_map _ _ (λ s k. subst (λ (t : ℕ). All (λ (u : Record). t < u.stamp) x.rest) (sym k) higher) p x.same)
 
-      passes_by : (v : Verdict) → Judged b x.held m.controls v → goes_on v ≡ true → (d' : Desk) → d' ≡ run_desk b (take (min j.count most_in_all) j.records) d → Reaching j.next d'
+      passes_by : (v : Verdict) → Judged b x.held m.controls v → goes_on v ≡ true → (d' : Desk) → d' ≡ run_desk b (take (min j.records.count most_in_all) j.records.records) d → Reaching j.next d'
       unfolding Judged
       passes_by verdict.Crowded k g d' q = absurd (true_not_false (sym g))
       passes_by verdict.Differ k g d' q = absurd (true_not_false (sym g))
@@ -254,5 +254,5 @@ module _ (text : List ℕ) (b : Board) (rs : List Record) (lent : Images) (reada
                 (not_crowded b x.held p x.rest j.stamp x.holds x.same higher k.0) a p (as_written b x.held p x.rest j.stamp x.holds x.same higher m good k.0) kept);
           }
 
-      pub reaching_passes : goes_on j.verdict ≡ true → (d' : Desk) → d' ≡ run_desk b (take (min j.count most_in_all) j.records) d → Reaching j.next d'
+      pub reaching_passes : goes_on j.verdict ≡ true → (d' : Desk) → d' ≡ run_desk b (take (min j.records.count most_in_all) j.records.records) d → Reaching j.next d'
       reaching_passes g d' q = passes_by j.verdict judged g d' q
