@@ -104,8 +104,8 @@ impl Desk<'_, '_> {
                     stamp: j.stamp,
                 };
             }
-            let many = j.count.min(orders::MOST_IN_ALL);
-            self.play_all(&j.records[..many]);
+            let many = j.records.count.min(orders::MOST_IN_ALL);
+            self.play_all(&j.records.records[..many]);
             place = j.next;
         }
         End {
@@ -143,14 +143,26 @@ fn replay(
         count: 0,
     };
     let end = desk.run(text, first);
-    buffers::put_answer(res, u32::from(end.answer), end.stamp as usize, desk.count, 0)
+    buffers::put_answer(
+        res,
+        u32::from(end.answer),
+        end.stamp as usize,
+        desk.count,
+        0,
+    )
 }
 
 // A refusal writes only the result: the answer, the line, no count, the field.
 fn refuse(res: &mut [u8], refusal: Refusal) -> u32
     ensures { (result ≡ answer_number refusal.answer) × (res.new ≡ result_after (answer_number refusal.answer) refusal.line 0 refusal.field res.old) }
 {
-    buffers::put_answer(res, u32::from(refusal.answer), refusal.line, 0, refusal.field)
+    buffers::put_answer(
+        res,
+        u32::from(refusal.answer),
+        refusal.line,
+        0,
+        refusal.field,
+    )
 }
 
 // A refusal of the whole call, with no line.

@@ -1,5 +1,4 @@
 use Rattle.std.proofs.Common.{rules, subst}
-use borrow.Author.Tests.{ltb-false}
 use Rattle.law.specs.Choice.{via}
 use Rattle.buffers.specs.Buffers.{Buffers, buffers_of}
 use Rattle.buffers.proofs.Fit.{fit_says}

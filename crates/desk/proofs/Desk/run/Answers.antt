@@ -39,9 +39,9 @@ loop-place-preserved c =
     let j = c.judge_at-j.result in
     let o = onward c.judge_at-j.ensures (goes_passes _ c.in_default.ensures) in
     let p = c.play_all.ensures in
-    let long : length j.records ≡ most_in_all = search rules in
+    let long : length j.records.records ≡ most_in_all = search rules in
     let few : c.min-many.result ≤ most_in_all = omega arith in
-    let bound : length (take c.min-many.result j.records) ≤ most_in_all = omega (arith, length-take {A = Record} c.min-many.result j.records) in
+    let bound : length (take c.min-many.result j.records.records) ≤ most_in_all = omega (arith, length-take {A = Record} c.min-many.result j.records.records) in
     record {
       keeps = kept_on i.keeps p.keeps;
       numbered = omega (arith, i.numbered, o.0, p.counts.0, bound);
@@ -49,7 +49,7 @@ loop-place-preserved c =
       comes = comes_next _ _ _ _ _ _ c.requires.short _ _ _ _ _ _ _ i.comes c.loop-place-test.true _
           (subst (λ (b : Board). JudgesAt c.args.text.now c.loop-place.place b c.loop-place.self.controls j) i.keeps.same_board c.judge_at-j.ensures)
           c.in_default.ensures _ _ c.min-many.ensures
-          (p.runs ∙ ap (λ (b : Board). run_desk b (take c.min-many.result j.records) (desk_in c.loop-place.self)) i.keeps.same_board);
+          (p.runs ∙ ap (λ (b : Board). run_desk b (take c.min-many.result j.records.records) (desk_in c.loop-place.self)) i.keeps.same_board);
     }
 
 pub returns-clause-runs : goal.returns-clause-runs
