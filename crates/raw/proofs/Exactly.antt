@@ -20,7 +20,7 @@ use Rattle.decode.specs.Bits.{events_of}
 use Rattle.decode.specs.Decoded.{turn_of, records_at, decoded_from, decoded_by, flash_start, wires_start, flash_of, eeprom_of}
 use Rattle.capture.specs.declared.Part.{Part}
 use Rattle.capture.specs.declared.Part.TheVariants.{FlashEnds, EepromEnds, Lines}
-use Rattle.capture.specs.declared.Fault.TheVariants.{Nothing}
+use Rattle.std.specs.Prelude.{Ok}
 use Rattle.capture.specs.Taken.{is_of, part_of, taken_of, stamped}
 use Rattle.capture.specs.Captures.{none, line, fault_of, Faultless, Captures}
 use Rattle.capture.specs.Merge.{number_of, gathered, Merged}
@@ -63,7 +63,7 @@ module _ (ts : List Record) (a : Level) (ls : List Level) (f : Faultless ts none
   taken_kept m back o p = part_as_it_is number_of _ o (subst (Rising number_of) (sym (own p)) (part_rising p rs back)) ∙ own p
 
 -- ---- no decoded record has the stamp of a taken one
-not_tied : (ts : List Record) (a b : Level) → fault_of ts (line a) b ≡ Nothing → stamped ts b.stamp ≡ false
+not_tied : (ts : List Record) (a b : Level) → fault_of ts (line a) b ≡ Ok tt → stamped ts b.stamp ≡ false
 unfolding fault_of
 not_tied ts a b h =
     ⊎_elim (λ z. bad_not_nothing z.1) (λ z. ⊎_elim (λ y. bad_not_nothing y.1) (λ y. y.0) (pick_says (stamped ts b.stamp) _ _ _ z.1))

@@ -19,9 +19,9 @@ use Rattle.text.specs.Texts.{text_limit, Refused}
 use Rattle.level.specs.declared.Level.{Level}
 use Rattle.level.specs.Rest.{resting, clash}
 use Rattle.buffers.specs.Buffers.{result_bytes}
-use Rattle.capture.specs.declared.Fault.TheVariants.{Nothing, Bad}
+use Rattle.std.specs.Prelude.{Ok, Err}
 use Rattle.capture.specs.Taken.{stamped}
-use Rattle.capture.specs.Captures.{Before, none, line, fault_of, BadCapture, no_level, faulty}
+use Rattle.capture.specs.Captures.{Fault, Before, none, line, fault_of, BadCapture, no_level, faulty}
 use Rattle.capture.specs.Merge.{Judgement, refused, merged, Judges, long_trace, bad_trace, long_levels, bad_levels, both}
 use Rattle.capture.proofs.OneJudgement.{one_judgement}
 use Rattle.demands.specs.Grounds.{OfLine, three, four, five}
@@ -29,16 +29,16 @@ use Rattle.demands.proofs.Ways.{refused_line_lem, line_number}
 use Rattle.raw.specs.Raw.{Pair, Long, trace_long, levels_long, LevelsBad, Grounds}
 
 -- ---- a first bad line of the levels is 12 or 13
-twelve_not_ten : {A : Type 0} → Bad BadLevel ≡ Bad TooShort → A
-twelve_not_ten h = absurd (zero_one (cc))
+twelve_not_ten : {A : Type 0} → ◌≡◌ {A = Fault} (Err BadLevel) (Err TooShort) → A
+twelve_not_ten h = absurd (cc)
 
-thirteen_not_ten : {A : Type 0} → Bad Together ≡ Bad TooShort → A
-thirteen_not_ten h = absurd (zero_one (cc))
+thirteen_not_ten : {A : Type 0} → ◌≡◌ {A = Fault} (Err Together) (Err TooShort) → A
+thirteen_not_ten h = absurd (cc)
 
-nothing_not_ten : {A : Type 0} → Nothing ≡ Bad TooShort → A
-nothing_not_ten h = absurd (zero_one (cc))
+nothing_not_ten : {A : Type 0} → ◌≡◌ {A = Fault} (Ok tt) (Err TooShort) → A
+nothing_not_ten h = absurd (cc)
 
-not_short : (ts : List Record) (p : Before) (l : Level) → fault_of ts p l ≡ Bad TooShort → ⊥
+not_short : (ts : List Record) (p : Before) (l : Level) → fault_of ts p l ≡ Err TooShort → ⊥
 unfolding fault_of
 not_short ts none l e =
     ⊎_elim (λ z. ⊎_elim (λ y. twelve_not_ten y.1) (λ y. nothing_not_ten y.1) (pick_says (stamped ts l.stamp) _ _ _ z.1)) (λ z. twelve_not_ten z.1)
@@ -52,7 +52,7 @@ not_short ts (line a) l e =
 
 no_short : {ts : List Record} {text : List ℕ} {a : LevelsAnswer} {n : ℕ} → BadCapture ts text a n → a ≡ TooShort → ⊥
 no_short (no_level ls b s g) e = zero_one (cc)
-no_short {ts} (faulty ls l a b o s g) e = not_short ts _ l (g ∙ ap (λ (x : LevelsAnswer). Bad x) e)
+no_short {ts} (faulty ls l a b o s g) e = not_short ts _ l (g ∙ ap (λ (x : LevelsAnswer). Err x) e)
 
 bad_number : {ts : List Record} {text : List ℕ} (a : LevelsAnswer) {n : ℕ} → BadCapture ts text a n → 12 ≤ levels_answer_number a
 bad_number BadLevel h = omega arith
