@@ -11,17 +11,10 @@ use Rattle.field.specs.Ends.{tab, lf}
 use Rattle.field.specs.Hex.{hex_field}
 use Rattle.field.specs.Spelling.{no_bytes, put_all}
 use Rattle.field.proofs.SpellingLaws.{holds, put_then, digits_count}
+use Rattle.listing.proofs.Putting.{put_three}
 use Rattle.entries.proofs.Digits.{byte_length}
 use Rattle.entries.specs.Printed.{word_program, word_chip_erase, word_sector_erase, hex_bytes, cycles_line, refusal_line}
 use Rattle.entries.specs.Lines.{kind_word, address_end, head_line}
-
--- three pieces put one after another
-put_three : (s a b c : List ℕ) {s1 s2 r : List ℕ} → s1 ≡ put_all s a → s2 ≡ put_all s1 b → r ≡ put_all s2 c → r ≡ put_all s (a ++ (b ++ c))
-put_three s a b c e f g =
-    g
-    ∙ ap (λ (k : List ℕ). put_all k c) (f ∙ ap (λ (k : List ℕ). put_all k b) e)
-    ∙ put_then (put_all s a) b c
-    ∙ put_then s a (b ++ c)
 
 pub put_address : (s : List ℕ) (a b c : ℕ) {s1 s2 r : List ℕ} → s1 ≡ put_all s (hex_field a) → s2 ≡ put_all s1 (hex_field b) → r ≡ put_all s2 (hex_field c)
     → r ≡ put_all s (hex_bytes (a ∷ b ∷ c ∷ []))

@@ -14,7 +14,7 @@ use Rattle.record.specs.declared.FlashEvent.TheVariants.{Deselect, End}
 use Rattle.flash.specs.declared.Op.TheVariants as op
 use Rattle.flash.specs.declared.LockFact.{LockFact}
 use Rattle.flash.specs.declared.FlashCycle.TheVariants as cycle
-use Rattle.flash.specs.declared.FlashStatus.TheVariants.{Known}
+use Rattle.std.specs.Prelude.{Some, None}
 use Rattle.flash.specs.Code.{decode_of, sector_of, kept_bits, with_enable}
 use Rattle.flash.specs.Frame.{fact_by, opened_by, with_byte}
 use Rattle.flash.specs.Cycle.{blank}
@@ -56,14 +56,14 @@ same_code : (lock : Bool) (watched s : ℕ) (i : Image) (code other : ℕ) (bs :
     → played (powered lock) watched (opened (code ∷ bs)) (half (idle s) i) ≡ played (powered lock) watched (opened (other ∷ bs)) (half (idle s) i)
 unfolding played flash_after
 same_code lock watched s i code other bs e =
-    ap (λ d. played (powered lock) watched (bytes_sent bs) (half (record { frame = opened_by false d (fact_by (Known s) lock); cycle = cycle.None; status = Known s; page = blank }) i)) e
+    ap (λ d. played (powered lock) watched (bytes_sent bs) (half (record { frame = opened_by false d (fact_by (Some s) lock); cycle = None; status = Some s; page = blank }) i)) e
 
 module _ (lock : Bool) (w s : ℕ) (l : w < flash_sectors) (kept : kept_bits s ≡ s) (i : Image) (content : ℕ → ℕ) (h : Holds w i content) (code high middle low : ℕ) where
   abbrev a : ℕ
   a = address_of high middle low
 
   abbrev fact : LockFact
-  fact = fact_by (Known (with_enable s)) lock
+  fact = fact_by (Some (with_enable s)) lock
 
   -- a sector erase erases its address's sector
   pub any_erase : decode_of code ≡ decode_of 0x52 → starts s (sector_erase (sector_of a)) ≡ true
@@ -119,6 +119,6 @@ any_chip lock w s l kept i content h code is st =
       ends = bytes_played lock (suc w) (code ∷ []) s i
           ∙ ap (λ (x : Half). played (powered lock) (suc w) (Deselect ∷ End ∷ []) x)
           (same_code lock (suc w) (with_enable s) i code 0x62 [] is ∙ chip_sent lock (suc w) (with_enable s) i)
-          ∙ chip_ended lock (suc w) (with_enable s) 0 (fact_by (Known (with_enable s)) lock) i (unlocked s 1 1 refl st) (enabled_enable s)
+          ∙ chip_ended lock (suc w) (with_enable s) 0 (fact_by (Some (with_enable s)) lock) i (unlocked s 1 1 refl st) (enabled_enable s)
           ∙ ap (λ (x : ℕ). half (idle x) j) (kept_enable s ∙ kept);
     }

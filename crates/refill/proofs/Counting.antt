@@ -13,7 +13,7 @@ use Rattle.record.specs.declared.Skeleton.TheVariants as skeleton
 use Rattle.flash.specs.declared.Op.TheVariants as op
 use Rattle.flash.specs.declared.LockFact.{LockFact}
 use Rattle.flash.specs.declared.Sent.{Sent}
-use Rattle.flash.specs.declared.FlashStatus.TheVariants.{Known}
+use Rattle.std.specs.Prelude.{Some}
 use Rattle.flash.specs.Code.{sector_of, sector_locked, enabled}
 use Rattle.flash.specs.Frame.{fact_by, next_sent, op_code_sent, page_after}
 use Rattle.flash.specs.Cycle.{blank}
@@ -78,7 +78,7 @@ module _ (f : Reply → ℕ) (count : Counts f) where
     opened_quiet (sector_erase t) s i = rw count.silent refl
     opened_quiet chip_erase s i = rw count.silent refl
     opened_quiet (program n bytes) s i =
-        ap₂ (λ (x y : ℕ). x + (x + y)) count.silent (bytes_quiet op_code_sent (fact_by (Known s) lock) s blank i (address (first_place (program n bytes)) ++ bytes))
+        ap₂ (λ (x y : ℕ). x + (x + y)) count.silent (bytes_quiet op_code_sent (fact_by (Some s) lock) s blank i (address (first_place (program n bytes)) ++ bytes))
 
     -- `des` and `end`
     pub erase_counts : (s p : ℕ) (fact : LockFact) (i : Image) → sector_locked s (sector_of p) ≡ false → enabled s ≡ true

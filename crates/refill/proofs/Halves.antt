@@ -7,11 +7,10 @@ use Rattle.record.specs.declared.Lines.{Lines}
 use Rattle.record.specs.declared.Skeleton.{Skeleton}
 use Rattle.flash.specs.declared.Flash.{Flash}
 use Rattle.flash.specs.declared.FlashCycle.{FlashCycle}
-use Rattle.flash.specs.declared.FlashCycle.TheVariants as cycle
 use Rattle.flash.specs.declared.FlashFrame.TheVariants.{Idle, Command}
 use Rattle.flash.specs.declared.LockFact.{LockFact}
 use Rattle.flash.specs.declared.Op.{Op}
-use Rattle.flash.specs.declared.FlashStatus.TheVariants.{Known}
+use Rattle.std.specs.Prelude.{Option, Some, None}
 use Rattle.flash.specs.Cycle.{blank}
 use Rattle.flash.specs.Step.{step_of}
 use Rattle.image.specs.Image.{Image}
@@ -45,17 +44,17 @@ abbrev pub powered : Bool → Lines
 powered lock = record { supply = true; lock = lock }
 
 -- idle, with a known status; and in a cycle
-abbrev pub in_cycle : FlashCycle → List ℕ → ℕ → Flash
-in_cycle c page status = record { frame = Idle; cycle = c; status = Known status; page = page }
+abbrev pub in_cycle : Option FlashCycle → List ℕ → ℕ → Flash
+in_cycle c page status = record { frame = Idle; cycle = c; status = Some status; page = page }
 
 abbrev pub idle : ℕ → Flash
-idle status = in_cycle cycle.None blank status
+idle status = in_cycle None blank status
 
 -- in a command's frame, with so many bytes in
 abbrev pub in_command : Op → ℕ → ℕ → LockFact → ℕ → List ℕ → Flash
 in_command o count place fact status page =
-    record { frame = Command o (record { count = count; place = place }) fact; cycle = cycle.None; status = Known status; page = page }
+    record { frame = Command o (record { count = count; place = place }) fact; cycle = None; status = Some status; page = page }
 
 -- what a whole cycle makes of the image
 abbrev pub whole_of : ℕ → FlashCycle → List ℕ → ℕ → Image → Image
-whole_of watched c page status i = flash_after Whole watched (in_cycle c page status) i
+whole_of watched c page status i = flash_after Whole watched (in_cycle (Some c) page status) i

@@ -16,7 +16,7 @@ use Rattle.record.specs.declared.FlashEvent.TheVariants.{Deselect, End}
 use Rattle.flash.specs.declared.Op.TheVariants as op
 use Rattle.flash.specs.declared.LockFact.{LockFact}
 use Rattle.flash.specs.declared.FlashCycle.TheVariants as cycle
-use Rattle.flash.specs.declared.FlashStatus.TheVariants.{Known}
+use Rattle.std.specs.Prelude.{Some}
 use Rattle.flash.specs.Code.{sector_of, locked_by, sector_locked, enabled, kept_bits, with_enable}
 use Rattle.flash.specs.Frame.{fact_by, with_byte, rolled_on}
 use Rattle.flash.specs.Cycle.{blank}
@@ -90,17 +90,17 @@ module _ (lock : Bool) (watched : ℕ) where
 
   -- an entry's frame, up to the address
   pub erase_sent : (s a b c : ℕ) (i : Image)
-      → played (powered lock) watched (opened (0x52 ∷ a ∷ b ∷ c ∷ [])) (half (idle s) i) ≡ half (in_command op.SectorErase 4 (place_sent a b c) (fact_by (Known s) lock) s blank) i
+      → played (powered lock) watched (opened (0x52 ∷ a ∷ b ∷ c ∷ [])) (half (idle s) i) ≡ half (in_command op.SectorErase 4 (place_sent a b c) (fact_by (Some s) lock) s blank) i
   unfolding played flash_after
   erase_sent s a b c i = refl
 
   pub chip_sent : (s : ℕ) (i : Image)
-      → played (powered lock) watched (opened (0x62 ∷ [])) (half (idle s) i) ≡ half (in_command op.ChipErase 1 0 (fact_by (Known s) lock) s blank) i
+      → played (powered lock) watched (opened (0x62 ∷ [])) (half (idle s) i) ≡ half (in_command op.ChipErase 1 0 (fact_by (Some s) lock) s blank) i
   unfolding played flash_after
   chip_sent s i = refl
 
   pub program_sent : (s a b c : ℕ) (i : Image)
-      → played (powered lock) watched (opened (0x02 ∷ a ∷ b ∷ c ∷ [])) (half (idle s) i) ≡ half (in_command op.Program 4 (place_sent a b c) (fact_by (Known s) lock) s blank) i
+      → played (powered lock) watched (opened (0x02 ∷ a ∷ b ∷ c ∷ [])) (half (idle s) i) ≡ half (in_command op.Program 4 (place_sent a b c) (fact_by (Some s) lock) s blank) i
   unfolding played flash_after
   program_sent s a b c i = refl
 

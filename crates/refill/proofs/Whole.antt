@@ -17,7 +17,7 @@ use Rattle.record.specs.declared.Reply.{Reply}
 use Rattle.flash.specs.declared.Op.TheVariants as op
 use Rattle.flash.specs.declared.LockFact.{LockFact}
 use Rattle.flash.specs.declared.FlashCycle.TheVariants as cycle
-use Rattle.flash.specs.declared.FlashStatus.TheVariants.{Known}
+use Rattle.std.specs.Prelude.{Some}
 use Rattle.flash.specs.Code.{sector_of, sector_locked, kept_bits, with_enable}
 use Rattle.flash.specs.Frame.{fact_by}
 use Rattle.flash.specs.Cycle.{blank}
@@ -100,7 +100,7 @@ module _ (lock : Bool) (watched : ℕ) where
     readied (sector_erase t) s i ok st =
         let a = flash_sector * (t - 1) in
         let e = address_sent a (omega (arith, ok.1)) in
-        let fact : LockFact = fact_by (Known (with_enable s)) lock in
+        let fact : LockFact = fact_by (Some (with_enable s)) lock in
         let sec : sector_of a ≡ t = sector_first t ok.0 ok.1 in
         let u = unlocked s (sector_of a) t sec st in record {
           found = half (in_command op.SectorErase 4 a fact (with_enable s) blank) i;
@@ -111,7 +111,7 @@ module _ (lock : Bool) (watched : ℕ) where
           counts = erase_counts f count lock watched (with_enable s) a fact i u (enabled_enable s);
         }
     readied chip_erase s i ok st =
-        let fact : LockFact = fact_by (Known (with_enable s)) lock in
+        let fact : LockFact = fact_by (Some (with_enable s)) lock in
         let u = unlocked s 1 1 refl st in record {
           found = half (in_command op.ChipErase 1 0 fact (with_enable s) blank) i;
           sent = chip_sent lock watched (with_enable s) i;
@@ -123,7 +123,7 @@ module _ (lock : Bool) (watched : ℕ) where
     readied (program n (d ∷ ds)) s i ok st =
         let a = flash_page * n in
         let e : place_sent (a / 65536 % 256) (a / 256 % 256) (a % 256) ≡ 256 * n + 0 = address_sent a (omega (arith, ok.0)) ∙ sym (add-zero (256 * n)) in
-        let fact : LockFact = fact_by (Known (with_enable s)) lock in
+        let fact : LockFact = fact_by (Some (with_enable s)) lock in
         let q = roll_place 0 (d ∷ ds) in
         let small = roll_small 0 (d ∷ ds) (omega arith) in
         let u = unlocked s (sector_of (256 * n + q)) (sector_of (flash_page * n)) (same_sector n q small) st in record {
