@@ -63,7 +63,7 @@ pub type FlashPage = [u8; page::FLASH_PAGE as usize];
 // A page to which nothing was sent.
 pub(crate) const BLANK: FlashPage = [0xff; page::FLASH_PAGE as usize];
 
-// The status is none once it is lost: it stays lost, and nothing is kept beside it.
+// The cycle is none where none runs. The status is none once it is lost: it stays lost, and nothing is kept beside it.
 // The page holds the bytes of the PROGRAM that is sent or written, each at its place, and ff where none was sent.
 #[derive(Clone, Copy, Debug, PartialEq, Eq)]
 pub struct Flash {
