@@ -278,31 +278,3 @@ impl Reply {
         [kind, value, mask, u8::from(found)]
     }
 }
-
-// The paper's number of an answer: goes once nobody calls it.
-pub fn answer_number(a: Answer) -> u32
-    ensures { result ≡ answer_number a }
-{
-    u32::from(a)
-}
-
-// The same of a plan's.
-pub fn plan_answer_number(a: PlanAnswer) -> u32
-    ensures { result ≡ plan_answer_number a }
-{
-    u32::from(a)
-}
-
-// The same of levels'.
-pub fn levels_answer_number(a: LevelsAnswer) -> u32
-    ensures { result ≡ levels_answer_number a }
-{
-    u32::from(a)
-}
-
-// Whether two skeleton replies are the same.
-pub fn same_skeleton(s: Skeleton, t: Skeleton) -> bool
-    ensures { Decides result (s ≡ t) }
-{
-    s == t
-}
