@@ -89,14 +89,15 @@ fn meeting(bus: Record, line: Record, board: Board, controls: Controls) -> Contr
 }
 
 // Whether this bus record, played after a line record, leads where the two lead the other way round, and says what it should.
-fn closes(rec: Record, board: Board, controls: Controls, wanted: Skeleton, met: Controls) -> bool
-    ensures { result ≡ true → moved_of board controls rec ≡ record { controls = met; reply = wanted } }
+fn closes(rec: Record, board: Board, controls: Controls, wanted: Skeleton, met: &Controls) -> bool
+    ensures { result ≡ true → moved_of board controls rec ≡ record { controls = met.now; reply = wanted } }
 {
     let step = controls.play(board, rec);
-    if step.reply != wanted {
+    let reply = step.reply;
+    if reply != wanted {
         return false;
     }
-    step.controls == met
+    step.controls == *met
 }
 
 // The line record comes first, and then either kind.
@@ -108,12 +109,12 @@ fn line_next(
     ib: usize,
     il: usize,
     controls: Controls,
-    met: Controls,
-    want: Outcome,
+    met: &Controls,
+    want: &Outcome,
 ) -> bool
     requires within { Within tied ib (il + 1) }
-    requires met { Met tied ib il met want }
-    ensures { Decides result (LineAgrees rec tied ib il controls want) }
+    requires met { Met tied ib il met.now want.now }
+    ensures { Decides result (LineAgrees rec tied ib il controls want.now) }
 {
     let step = controls.play(tied.board, rec);
     let next = step.controls;
@@ -128,7 +129,7 @@ fn line_next(
         if at < tied.lines.count {
             let l = tied.lines.records[at];
             let on = met.play(tied.board, l);
-            return line_next(l, tied, ib, at, next, on.controls, want);
+            return line_next(l, tied, ib, at, next, &on.controls, want);
         }
         return true;
     }
@@ -147,14 +148,15 @@ fn bus_next(
     ib: usize,
     il: usize,
     controls: Controls,
-    want: Outcome,
+    want: &Outcome,
 ) -> bool
     requires { Within tied (ib + 1) il }
-    ensures { Decides result (BusAgrees rec tied ib il controls want) }
+    ensures { Decides result (BusAgrees rec tied ib il controls want.now) }
 {
     let step = controls.play(tied.board, rec);
+    let reply = step.reply;
     let expected = want.replies[ib];
-    if step.reply != expected {
+    if reply != expected {
         return false;
     }
     let next = step.controls;
@@ -167,13 +169,13 @@ fn bus_next(
         if il < tied.lines.count {
             let l = tied.lines.records[il];
             let met = meeting(b, l, tied.board, next);
-            return line_next(l, tied, at, il, next, met, want);
+            return line_next(l, tied, at, il, next, &met, want);
         }
         return true;
     }
     if il < tied.lines.count {
         let l = tied.lines.records[il];
-        return line_next(l, tied, at, il, next, next, want);
+        return line_next(l, tied, at, il, next, &next, want);
     }
     next == want.controls
 }
@@ -230,12 +232,12 @@ fn tried(tied: Tied, controls: Controls) -> bool
     }
     let want = reference(tied, controls);
     let b = tied.buses.records[0];
-    if !bus_next(b, tied, 0, 0, controls, want) {
+    if !bus_next(b, tied, 0, 0, controls, &want) {
         return false;
     }
     let l = tied.lines.records[0];
     let met = meeting(b, l, tied.board, controls);
-    line_next(l, tied, 0, 0, controls, met, want)
+    line_next(l, tied, 0, 0, controls, &met, &want)
 }
 
 fn of_line(rec: Record) -> bool
