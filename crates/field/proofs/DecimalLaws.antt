@@ -12,6 +12,7 @@ use lib.Arith.{digits_div, digits_mod}
 use lib.ListN.{length, drop, get_or, length-append, drop_of_length-le}
 use lib.Seq.{drop-cons}
 use borrow.Author.Tests.{lt-ltb, le-ltb, le-leb, leb-true, eq-eqb, ne_eqb, eqb-true, eqb-false}
+use Rattle.std.proofs.lemmas.Grind.{get_or_default_zero}
 use Rattle.law.specs.Choice.{split, lt_or_le}
 use Rattle.law.specs.Words.{pick}
 use Rattle.std.specs.Prelude.{Option, None, Some}
@@ -225,13 +226,16 @@ module _ (number : ℕ) where
   pub answers : (text : List ℕ) (at : ℕ) (r : Read ℕ) → decimal_from None at (drop at text) ≡ r → ReadsDecimal number text at r
   answers text at r e = subst (λ (z : Read ℕ). ReadsDecimal number text at z) e (reads_decimal text at)
 
-  -- ---- a turn of the loop, at a place within the text
-  module _ (text : List ℕ) (o : Option ℕ) (at : ℕ) (h : at < length text) where
-    pub at_push : (w : ℕ) → push_of o (get_or text at 0) ≡ Some w → decimal_from o at (drop at text) ≡ decimal_from (Some w) (at + 1) (drop (at + 1) text)
-    at_push w e = rw (drop-cons text at 0 h, from_push o at (get_or text at 0) w (drop (suc at) text) e, add-one)
+  -- ---- a turn of the loop, at a place within the text, where the byte b stands
+  module _ (text : List ℕ) (o : Option ℕ) (at b : ℕ) (h : at < length text) (stands : b ≡ get_or text at b) where
+    here : drop at text ≡ b ∷ drop (suc at) text
+    here = drop-cons text at 0 h ∙ ap (λ (k : ℕ). k ∷ drop (suc at) text) (sym (stands ∙ get_or_default_zero text at b h))
 
-    pub at_bad : push_of o (get_or text at 0) ≡ None → decimal_from o at (drop at text) ≡ stopped_at number o at (drop at text)
-    at_bad e = ap (λ (l : List ℕ). decimal_from o at l) (drop-cons text at 0 h) ∙ from_bad o at (get_or text at 0) (drop (suc at) text) e ∙ ap (λ (l : List ℕ). stopped_at number o at l) (sym (drop-cons text at 0 h))
+    pub at_push : (w : ℕ) → push_of o b ≡ Some w → decimal_from o at (drop at text) ≡ decimal_from (Some w) (at + 1) (drop (at + 1) text)
+    at_push w e = rw (here, from_push o at b w (drop (suc at) text) e, add-one)
+
+    pub at_bad : push_of o b ≡ None → decimal_from o at (drop at text) ≡ stopped_at number o at (drop at text)
+    at_bad e = ap (λ (l : List ℕ). decimal_from o at l) here ∙ from_bad o at b (drop (suc at) text) e ∙ ap (λ (l : List ℕ). stopped_at number o at l) (sym here)
 
   pub at_end : (text : List ℕ) (o : Option ℕ) (at : ℕ) → length text ≤ at → decimal_from o at (drop at text) ≡ stopped_at number o at (drop at text)
   at_end text o at h = ap (λ (l : List ℕ). decimal_from o at l) (drop_of_length-le text h) ∙ from_nil o at ∙ ap (λ (l : List ℕ). stopped_at number o at l) (sym (drop_of_length-le text h))

@@ -1,14 +1,14 @@
 -- The hex field.
 use Prim.Native.Nat.{ℕ, zero, suc, ◌+◌, ◌-◌, ◌*◌, ◌/◌, ◌%◌, ◌≤◌, ◌<◌, min}
 use native.Mathlib.Omega.{arith}
-use native.Mathlib.Nat.{div-add-mod', add-sub_cancel_left, add-zero}
+use native.Mathlib.Nat.{div-add-mod', add-sub_cancel_left}
 use mathlib.Core.Path.{◌≡◌, refl, sym, ap, ◌∙◌}
 use mathlib.Core.Logic.{⊎_elim}
 use mathlib.Core.Bool.{Bool, true, false}
 use mathlib.Core.List.{List}
 use lib.Dec.{ltb, leb}
 use lib.Arith.{digits_div, digits_mod}
-use lib.ListN.{length, get_or}
+use lib.ListN.{length, drop, get_or, length-drop}
 use borrow.Author.Tests.{lt-ltb, le-ltb, le-leb, lt-leb, ltb-true, ltb-false, leb-true}
 use Rattle.std.specs.Prelude.{Option, None, Some}
 use Rattle.law.specs.Choice.{pick_says, lt_or_le, both}
@@ -17,7 +17,7 @@ use Rattle.field.specs.Ends.{tab_byte, lf_byte}
 use Rattle.field.specs.Hex.{hex_digit, hex_field, hex_value, byte_of, is_byte_in}
 use Rattle.field.specs.Readers.{nibble_of, digit_value, letter_value}
 use Rattle.field.specs.Reads.{Stands}
-use Rattle.field.proofs.Reading.{Got, stands_get_d, stands_length, stands_of}
+use Rattle.field.proofs.Reading.{Got, rest_get, stands_get_d, stands_length, stands_of}
 use Rattle.field.proofs.Answers.{No}
 use Rattle.field.proofs.FieldLaws.{Plain, Tests, spells_tests}
 
@@ -47,40 +47,44 @@ nibble_says b d e =
     (pick_says (leb b 57) _ _ _ z.1))
     (pick_says (ltb b 48) _ _ _ e)
 
--- the two digits of a spelled byte, as the text has them
-module _ (text : List ℕ) (at : ℕ) where
-  high : (x : ℕ) → x < 256 → Stands text at (hex_field x) → nibble_of (get_or text at 0) ≡ Some (x / 16)
-  unfolding hex_field
-  high x h s = ap nibble_of (ap (λ (k : ℕ). get_or text k 0) (sym (add-zero at)) ∙ stands_get_d text (hex_field x) at s 0 (omega arith)) ∙ nibble_digit (x / 16) (omega arith)
+pub hex_past : (text : List ℕ) (at : ℕ) → length text < at → No hex_field (λ n. n < 256) text at
+unfolding hex_field
+hex_past text at h x o s = let l = stands_length text (hex_field x) at s (omega arith) in omega arith
 
-  low : (x : ℕ) → x < 256 → Stands text at (hex_field x) → nibble_of (get_or text (at + 1) 0) ≡ Some (x % 16)
+-- the two digits of a spelled byte, as what is left of the text has them
+module _ (text : List ℕ) (at : ℕ) {rest : List ℕ} (left : rest ≡ drop at text) where
+  high : (x : ℕ) → x < 256 → Stands text at (hex_field x) → nibble_of (get_or rest 0 0) ≡ Some (x / 16)
   unfolding hex_field
-  low x h s = ap nibble_of (stands_get_d text (hex_field x) at s 1 (omega arith)) ∙ nibble_digit (x % 16) (omega arith)
+  high x h s = ap nibble_of (rest_get text at 0 left ∙ stands_get_d text (hex_field x) at s 0 (omega arith)) ∙ nibble_digit (x / 16) (omega arith)
 
-  pub hex_short : length text < at + 2 → No hex_field (λ n. n < 256) text at
+  low : (x : ℕ) → x < 256 → Stands text at (hex_field x) → nibble_of (get_or rest 1 0) ≡ Some (x % 16)
   unfolding hex_field
-  hex_short h x o s = let l = stands_length text (hex_field x) at s (omega arith) in omega arith
+  low x h s = ap nibble_of (rest_get text at 1 left ∙ stands_get_d text (hex_field x) at s 1 (omega arith)) ∙ nibble_digit (x % 16) (omega arith)
 
-  pub hex_high : nibble_of (get_or text at 0) ≡ None → No hex_field (λ n. n < 256) text at
+  pub hex_short : length rest < 2 → No hex_field (λ n. n < 256) text at
+  unfolding hex_field
+  hex_short h x o s = let l = stands_length text (hex_field x) at s (omega arith) in omega (arith, ap length left, length-drop at text)
+
+  pub hex_high : nibble_of (get_or rest 0 0) ≡ None → No hex_field (λ n. n < 256) text at
   hex_high e x o s = never (sym e ∙ high x o s)
 
-  pub hex_low : nibble_of (get_or text (at + 1) 0) ≡ None → No hex_field (λ n. n < 256) text at
+  pub hex_low : nibble_of (get_or rest 1 0) ≡ None → No hex_field (λ n. n < 256) text at
   hex_low e x o s = never (sym e ∙ low x o s)
 
-  pub hex_both : (a b : ℕ) → at + 2 ≤ length text → nibble_of (get_or text at 0) ≡ Some a → nibble_of (get_or text (at + 1) 0) ≡ Some b → Got hex_field (λ n. n < 256) text at (a * 16 + b) (at + 2)
+  pub hex_both : (a b : ℕ) → 2 ≤ length rest → nibble_of (get_or rest 0 0) ≡ Some a → nibble_of (get_or rest 1 0) ≡ Some b → Got hex_field (λ n. n < 256) text at (a * 16 + b) (at + 2)
   unfolding hex_field
   hex_both a b h p q =
-      let m = nibble_says (get_or text at 0) a p in
-      let n = nibble_says (get_or text (at + 1) 0) b q in
+      let m = nibble_says (get_or rest 0 0) a p in
+      let n = nibble_says (get_or rest 1 0) b q in
       record {
         ok = omega arith;
-        stands = stands_of text (hex_field (a * 16 + b)) at h (bytes m n);
+        stands = stands_of text (hex_field (a * 16 + b)) at (omega (arith, ap length left, length-drop at text)) (λ i l. sym (rest_get text at i left) ∙ bytes m n i l);
         next = refl;
         only = λ y o s. let v = value (sym p ∙ high y o s) in let w = value (sym q ∙ low y o s) in let d = div-add-mod' y 16 in omega arith;
       }
     where
-      bytes : ((a < 16) × (get_or text at 0 ≡ hex_digit a)) → ((b < 16) × (get_or text (at + 1) 0 ≡ hex_digit b)) → (i : ℕ) → i < 2 → get_or text (at + i) 0 ≡ get_or (hex_field (a * 16 + b)) i 0
-      bytes m n zero l = rw (add-zero, digits_div a n.0) m.1
+      bytes : ((a < 16) × (get_or rest 0 0 ≡ hex_digit a)) → ((b < 16) × (get_or rest 1 0 ≡ hex_digit b)) → (i : ℕ) → i < 2 → get_or rest i 0 ≡ get_or (hex_field (a * 16 + b)) i 0
+      bytes m n zero l = rw (digits_div a n.0) m.1
       bytes m n (suc zero) l = rw (digits_mod a n.0) n.1
       bytes m n (suc (suc i)) l = absurd (omega arith)
 

@@ -1,12 +1,16 @@
 -- Laws of words that stand in a text, and of readers' answers.
-use Prim.Native.Nat.{ℕ, ◌+◌, ◌≤◌, ◌<◌}
+use Prim.Native.Nat.{ℕ, ◌+◌, ◌-◌, ◌≤◌, ◌<◌}
 use native.Mathlib.Omega.{arith}
 use native.Mathlib.Nat.{add-zero}
 use mathlib.Core.Path.{◌≡◌, refl, sym, ap, subst, ◌∙◌}
 use mathlib.Core.Logic.{inl, inr, ⊎_elim}
 use mathlib.Core.List.{List, [], ◌++◌, append_assoc}
 use lib.ListN.{length, take, drop, get_or, length-append, length-drop, take-append-drop, get_or-append}
-use lib.Seq.{get_or-drop, get_or-take, drop-drop, drop-append_seam, ext_get_or, length-take-le}
+use lib.Seq.{get_or-drop, get_or-take, drop-drop, drop-append_seam, ext_get_or, take_all, length-take-le}
+use denote.Ref.{Bor}
+use Rattle.std.specs.Prelude.{Option, None, Some}
+use Rattle.std.proofs.lemmas.Option.{MatchOption-at_some, MatchOption-at_none}
+use Rattle.std.specs.List.{PartBy}
 use Rattle.field.specs.Reads.{Stands, Reads}
 
 -- ---- words
@@ -27,6 +31,17 @@ stands_of text w at h e = record { rest = drop (length w) (drop at text); is = s
         (λ (i : ℕ) (p : i < length (take (length w) (drop at text))).
         let q : i < length w = omega (arith, length-take-le (length w) (drop at text) fits) in
         get_or-take (length w) (drop at text) i 0 q ∙ get_or-drop at text i 0 ∙ e i q)
+
+-- what is left of a text, as the library gives it
+module _ (text : List ℕ) (at : ℕ) where
+  pub rest_some : {r : Option (Bor (List ℕ))} (x : Bor (List ℕ)) → PartBy (λ (y : Bor (List ℕ)). y.now) text at (length text) r → r ≡ Some x → x.now ≡ drop at text
+  rest_some x p e = (MatchOption-at_some _ _ x e p.0).2 ∙ take_all (length text - at) (drop at text) (omega (arith, length-drop at text))
+
+  pub rest_none : {r : Option (Bor (List ℕ))} → PartBy (λ (y : Bor (List ℕ)). y.now) text at (length text) r → r ≡ None → length text < at
+  rest_none p e = ⊎_elim (λ (h : length text < at). h) (λ (h : length text < length text). omega arith) (MatchOption-at_none _ _ e p.0)
+
+pub rest_get : {rest : List ℕ} (text : List ℕ) (at i : ℕ) → rest ≡ drop at text → get_or rest i 0 ≡ get_or text (at + i) 0
+rest_get text at i e = ap (λ (l : List ℕ). get_or l i 0) e ∙ get_or-drop at text i 0
 
 pub stands_left : (text u v : List ℕ) (at : ℕ) → Stands text at (u ++ v) → Stands text at u
 stands_left text u v at s = record { rest = v ++ s.rest; is = s.is ∙ append_assoc u v s.rest }

@@ -1,12 +1,11 @@
 -- A word that is looked for at a place, and the end of a field.
-use Prim.Native.Nat.{ℕ, zero, suc, ◌+◌, ◌-◌, ◌≤◌, ◌<◌}
+use Prim.Native.Nat.{ℕ, zero, suc, ◌+◌, ◌≤◌, ◌<◌}
 use native.Mathlib.Omega.{arith}
 use native.Mathlib.Nat.{add-zero}
 use mathlib.Core.Path.{◌≡◌, refl, sym, ap, ◌∙◌}
 use mathlib.Core.Bool.{Bool, true, false}
 use mathlib.Core.List.{List, [], ◌∷◌, ◌++◌}
-use lib.ListN.{length, take, drop, get_or, length-drop}
-use lib.Seq.{take_all}
+use lib.ListN.{length, drop, get_or}
 use Rattle.std.specs.Prelude.{nat_eq}
 use Rattle.std.specs.List.{starts_with}
 use Rattle.std.proofs.lemmas.Slice.Eq.{starts_is}
@@ -16,24 +15,21 @@ use Rattle.field.specs.declared.ending.FieldEnd.{FieldEnd}
 use Rattle.field.specs.Readers.{past, bad_field, end_byte, end_number, ReadsWord, ReadsEnd}
 use Rattle.field.proofs.Reading.{stands_get_d, stands_length, stands_of, none, one, as_told}
 
-module _ (text w : List ℕ) (at n : ℕ) where
-  pub word_short : 0 < length w → length text ≤ at → ReadsWord w n text at (bad_field n)
-  word_short p h = none (λ x o s. let l = stands_length text w at s p in omega arith)
+module _ (text w : List ℕ) (at n : ℕ) (h : length text < at) where
+  pub word_past : 0 < length w → ReadsWord w n text at (bad_field n)
+  word_past p = none (λ x o s. let l = stands_length text w at s p in omega arith)
 
   pub word_empty : length w ≡ 0 → ReadsWord w n text at (past at)
-  word_empty h = one tt at tt (record { rest = drop at text; is = sym (ap (λ (l : List ℕ). l ++ drop at text) (length_nil w h)) }) (omega arith) (λ y o s. refl)
+  word_empty e = one tt at tt (record { rest = drop at text; is = sym (ap (λ (l : List ℕ). l ++ drop at text) (length_nil w e)) }) (omega arith) (λ y o s. refl)
     where
       length_nil : (l : List ℕ) → length l ≡ 0 → l ≡ []
       length_nil [] e = refl
       length_nil (x ∷ l) e = absurd (omega arith)
 
--- what the library's test of a prefix says of the text from a place within it
-module _ (text w : List ℕ) (at n : ℕ) (h : at < length text) {r : Bool} (t : r ≡ starts_with nat_eq (take (length text - at) (drop at text)) w) where
-  from_here : take (length text - at) (drop at text) ≡ drop at text
-  from_here = take_all (length text - at) (drop at text) (omega (arith, length-drop at text))
-
-  says : (r ≡ true → drop at text ≡ w ++ drop (length w) (drop at text)) × ((rest : List ℕ) → drop at text ≡ w ++ rest → r ≡ true)
-  says = starts_is Decides-eqb (drop at text) w r (t ∙ ap (λ (l : List ℕ). starts_with nat_eq l w) from_here)
+-- what the library's test of a prefix says of what is left of the text
+module _ (text w : List ℕ) (at n : ℕ) {rest : List ℕ} {r : Bool} (left : rest ≡ drop at text) (t : r ≡ starts_with nat_eq rest w) where
+  says : (r ≡ true → drop at text ≡ w ++ drop (length w) (drop at text)) × ((more : List ℕ) → drop at text ≡ w ++ more → r ≡ true)
+  says = starts_is Decides-eqb (drop at text) w r (t ∙ ap (λ (l : List ℕ). starts_with nat_eq l w) left)
 
   pub word_miss : r ≡ false → ReadsWord w n text at (bad_field n)
   word_miss e = none (λ x o s. true_not_false (sym (says.1 s.rest s.is) ∙ e))

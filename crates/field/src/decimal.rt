@@ -11,7 +11,8 @@ fn add_digit(value: u32, byte: u8) -> Option<u32>
     if !byte.is_ascii_digit() {
         return None;
     }
-    value.checked_mul(10)?.checked_add(u32::from(byte - b'0'))
+    let next = u64::from(value) * 10 + u64::from(byte - b'0');
+    u32::try_from(next).ok()
 }
 
 // The same after what was read so far, which is nothing yet or a number; a leading zero takes no further digit.
@@ -46,9 +47,9 @@ pub fn read_decimal(text: &[u8], c: Cursor, number: u8) -> Result<(u32, Cursor),
 {
     let mut at = c.at;
     let mut so_far = None;
-    while at < text.len() {
-        let Some(value) = push(so_far, text[at]) else {
-            return stopped(text, at, so_far, number);
+    while let Some(&byte) = text.get(at) {
+        let Some(value) = push(so_far, byte) else {
+            break;
         };
         so_far = Some(value);
         at += 1;

@@ -1,5 +1,5 @@
 // Two lower-case hex digits.
-ghost use Rattle.std.specs.Prelude.{◌≡◌, min};
+ghost use Rattle.std.specs.Prelude.{◌≡◌};
 ghost use Rattle.field.specs.Readers.{digit_value, letter_value, nibble_of, ReadsHex};
 
 use crate::{BadField, Cursor};
@@ -8,33 +8,20 @@ use crate::{BadField, Cursor};
 fn digit_value(byte: u8) -> u8
     ensures { result ≡ digit_value byte }
 {
-    if byte < 48 {
-        return 16;
+    match byte {
+        b'0'..=b'9' => byte - b'0',
+        _ => 16,
     }
-    if byte <= 57 {
-        return byte - 48;
-    }
-    16
 }
 
 // What the byte stands for as a letter a to f; 16 if it is none.
 fn letter_value(byte: u8) -> u8
     ensures { result ≡ letter_value byte }
 {
-    if byte < 97 {
-        return 16;
+    match byte {
+        b'a'..=b'f' => byte - b'a' + 10,
+        _ => 16,
     }
-    if byte <= 102 {
-        return byte - 87;
-    }
-    16
-}
-
-// The lesser of two values.
-fn lesser(x: u8, y: u8) -> u8
-    ensures { result ≡ min x y }
-{
-    if x < y { x } else { y }
 }
 
 // What one hex digit stands for. Both values are worked out and the lesser is taken, with no branch between digits and letters:
@@ -42,7 +29,7 @@ fn lesser(x: u8, y: u8) -> u8
 fn nibble_of(byte: u8) -> Option<u8>
     ensures { result ≡ nibble_of byte }
 {
-    let value = lesser(digit_value(byte), letter_value(byte));
+    let value = digit_value(byte).min(letter_value(byte));
     if value < 16 { Some(value) } else { None }
 }
 
@@ -50,19 +37,18 @@ fn nibble_of(byte: u8) -> Option<u8>
 pub fn read_hex(text: &[u8], c: Cursor, number: u8) -> Result<(u8, Cursor), BadField>
     ensures { ReadsHex number text.now c.at result }
 {
-    let at = c.at;
     let bad = Err(BadField(number as u32));
-    if text.len() <= at {
-        return bad;
-    }
-    if text.len() - at < 2 {
-        return bad;
-    }
-    let Some(high) = nibble_of(text[at]) else {
+    let Some(rest) = text.get(c.at..) else {
         return bad;
     };
-    let Some(low) = nibble_of(text[at + 1]) else {
+    let [first, second, ..] = rest else {
         return bad;
     };
-    Ok((high * 16 + low, Cursor { at: at + 2 }))
+    let Some(high) = nibble_of(*first) else {
+        return bad;
+    };
+    let Some(low) = nibble_of(*second) else {
+        return bad;
+    };
+    Ok((high * 16 + low, Cursor { at: c.at + 2 }))
 }

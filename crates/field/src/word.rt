@@ -7,18 +7,11 @@ use crate::{BadField, Cursor};
 pub fn read_word(text: &[u8], c: Cursor, word: &[u8], number: u8) -> Result<Cursor, BadField>
     ensures { ReadsWord word.now number text.now c.at result }
 {
-    let at = c.at;
-    let bad = Err(BadField(number as u32));
-    if word.is_empty() {
-        return Ok(c);
+    match text.get(c.at..) {
+        Some(rest) if rest.starts_with(word) => Ok(Cursor {
+            at: c.at + word.len(),
+        }),
+        None if word.is_empty() => Ok(c),
+        _ => Err(BadField(number as u32)),
     }
-    if text.len() <= at {
-        return bad;
-    }
-    if !text[at..].starts_with(word) {
-        return bad;
-    }
-    Ok(Cursor {
-        at: at + word.len(),
-    })
 }

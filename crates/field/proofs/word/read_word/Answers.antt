@@ -1,15 +1,14 @@
 use Rattle.std.proofs.Common.{rules}
-use Rattle.field.proofs.WordLaws.{word_short, word_miss, word_here, word_empty}
+use Rattle.field.proofs.Reading.{rest_some, rest_none}
+use Rattle.field.proofs.WordLaws.{word_past, word_miss, word_here}
+use Rattle.field.proofs.word.read_word.Goals.{in_default-via-in-Some+else-starts_with, in_default-via-in-None+else-is_empty}
 use Rattle.field.proofs.word.read_word.Goals as goal
 
-pub returns-then-is_empty : goal.returns-then-is_empty
-returns-then-is_empty c = word_empty _ _ _ _ (search rules)
+pub returns-in-Some : goal.returns-in-Some
+returns-in-Some c = word_here _ _ _ _ (rest_some _ _ _ c.get.ensures.lookup c.in-Some.is) c.starts_with.ensures.value c.if-starts_with.true
 
-pub returns-then-text-at : goal.returns-then-text-at
-returns-then-text-at c = word_short _ _ _ _ (search rules) c.if-text-at.true
-
-pub returns-then-not-starts_with : goal.returns-then-not-starts_with
-returns-then-not-starts_with c = word_miss _ _ _ _ c.if-text-at.false c.starts_with.ensures.value c.if-not-starts_with.true
-
-pub returns : goal.returns
-returns c = word_here _ _ _ _ c.if-text-at.false c.starts_with.ensures.value c.if-not-starts_with.false
+pub returns-in_default : goal.returns-in_default
+returns-in_default c = elim c.in_default.branch [
+  | in_default-via-in-Some+else-starts_with w ↦ word_miss _ _ _ _ (rest_some _ _ _ c.get.ensures.lookup w.in-Some.is) w.starts_with.ensures.value w.if-starts_with.false
+  | in_default-via-in-None+else-is_empty w ↦ word_past _ _ _ _ (rest_none _ _ c.get.ensures.lookup w.in-None.is) (search rules)
+]
