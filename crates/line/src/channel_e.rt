@@ -21,6 +21,7 @@ fn read_data(text: &[u8], c: Cursor) -> Result<(Event, Cursor), BadField>
 }
 
 // The most frequent word, `b`, is tried first.
+// Kept: as channel F's reader.
 pub fn read_eeprom(text: &[u8], c: Cursor) -> Result<(Event, Cursor), BadField>
     ensures { ReadsEeprom text.now c.at result }
 {

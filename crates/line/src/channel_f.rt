@@ -21,6 +21,8 @@ fn read_pair(text: &[u8], c: Cursor) -> Result<(Event, Cursor), BadField>
 }
 
 // The most frequent word, `x`, is tried first.
+// Kept: the channels try their words alike; one function over a table of words is no plainer, as it looks for words of no constant length and each
+// channel's reader has a promise of its own (ReadsFlash, ReadsEeprom, ReadsLine).
 pub fn read_flash(text: &[u8], c: Cursor) -> Result<(Event, Cursor), BadField>
     ensures { ReadsFlash text.now c.at result }
 {

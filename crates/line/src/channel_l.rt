@@ -9,6 +9,7 @@ use crate::numbers::EVENT;
 use field::{BadField, Cursor, Spelling};
 use record::{Event, LineEvent};
 
+// Kept: as channel F's reader.
 pub fn read_line(text: &[u8], c: Cursor) -> Result<(Event, Cursor), BadField>
     ensures { ReadsLine text.now c.at result }
 {

@@ -11,6 +11,7 @@ use field::{BadField, Cursor, FieldEnd, Spelling};
 use record::{Event, Record};
 
 // The channel and its event, to the line's end. Another channel's event word is no event of this one.
+// Kept: three arms alike, since a helper for word and tab is no plainer: it answers three things, another word, no tab and the place.
 fn read_event(text: &[u8], c: Cursor) -> Result<(Event, Cursor), BadField>
     ensures { ReadsEvent text.now c.at result }
 {
