@@ -1,6 +1,7 @@
 -- What is lent for the dumps is what `LentFor` asks: their images where all are taken, and else what does not fit.
 use Prim.Native.Nat.{ℕ, ◌<◌}
 use native.Mathlib.Omega.{arith}
+use borrow.Author.Rules.{rules}
 use mathlib.Core.Path.{◌≡◌, refl, sym, ap, subst, ◌∙◌}
 use mathlib.Core.Bool.{Bool, true}
 use Rattle.std.specs.Prelude.{Some, None}
@@ -49,8 +50,7 @@ unfolding Clean Disjoint
 sure_clean n dump k = ap (bit_and (get_or dump k 0)) (zeros_at n k) ∙ and_zero_r (get_or dump k 0)
 
 from_clean : (n : ℕ) (dump : Dump) → Clean (from_dump n dump)
-from_clean n (Some bytes) = sure_clean n bytes
-from_clean n None = blank_clean n
+from_clean n dump = search (sure_clean, blank_clean, rules)
 
 from_spans : (n : ℕ) (dump : Dump) → right n dump ≡ true → spans n (from_dump n dump) ≡ true
 from_spans n (Some bytes) e = lengths_span (image_of bytes (replicate n 0)) n (eqb-true _ _ e) (length-replicate n 0)
@@ -75,8 +75,7 @@ lent_right n h (Some bytes) e =
 lent_right n h None e = refl
 
 some_kept : (chip : Chip) → 0 < kept_bytes chip
-some_kept Flash = omega arith
-some_kept Eeprom = omega arith
+some_kept chip = search rules
 
 -- ---- both
 module _ (d : Dumps) (x : Buffers) (lent : (chip : Chip) → image_at chip x.images ≡ lent_for (dump_at chip d) (unknown chip))

@@ -1,6 +1,7 @@
 -- What `print_merge` leaves, by how both texts are judged: a merged text has room, and so has the line of a refusal, whose numbers are small.
 use Prim.Native.Nat.{ℕ, ◌+◌, ◌≤◌, ◌<◌}
 use native.Mathlib.Omega.{arith}
+use borrow.Author.Rules.{rules}
 use mathlib.Core.Path.{◌≡◌, refl, ap, ◌∙◌}
 use mathlib.Core.Bool.{true}
 use Rattle.std.specs.Prelude.{Ok, Err}
@@ -56,9 +57,7 @@ level_line h (no_level ls b s g) = begun ls h b
 level_line h (faulty ls l a b o s g) = begun ls h b
 
 levels_number : (a : LevelsAnswer) → (0 < levels_answer_number a) × (levels_answer_number a ≤ largest)
-levels_number BadLevel = (omega arith, omega arith)
-levels_number Together = (omega arith, omega arith)
-levels_number TooShort = (omega arith, omega arith)
+levels_number a = search rules
 
 -- what can be printed of a judgement
 abbrev pub Fits : Judgement → Type 0

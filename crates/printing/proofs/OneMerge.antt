@@ -1,6 +1,7 @@
 -- Of two texts one thing only is printed by `print_merge`, and it is what the exported call tells.
 use Prim.Native.Nat.{ℕ, ◌≤◌}
 use native.Mathlib.Omega.{arith}
+use borrow.Author.Rules.{rules}
 use mathlib.Core.Path.{◌≡◌, sym, ap, subst, ◌∙◌}
 use mathlib.Core.Logic.{⊎_elim}
 use mathlib.Core.List.{List, ◌++◌}
@@ -18,10 +19,7 @@ use Rattle.printing.proofs.MergeLaws.{Fits, fits, Left, left, refusal_numbers, c
 
 -- whether the pair is accepted, and the number, are all of what is given back
 same_told : (r r' : ToPrint) → is_ok r ≡ is_ok r' → length_of r ≡ length_of r' → r ≡ r'
-same_told (Ok m) (Ok n) a l = ap Ok l
-same_told (Ok m) (Err e) a l = absurd (true_not_false a)
-same_told (Err d) (Ok n) a l = absurd (true_not_false (sym a))
-same_told (Err d) (Err e) a l = (λ i. Err (record { 0 = l i }))
+same_told r r' a l = search rules
 
 module _ {levels trace old new : List ℕ} {r : ToPrint} (h : PrintsMerge levels trace old new r) where
   -- what is printed never reaches beyond the output

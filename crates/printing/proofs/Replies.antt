@@ -1,6 +1,7 @@
 -- The replies that the call leaves, read back: each record that is shown was played, with its reply and its match, and the one behind the last was not.
 use Prim.Native.Nat.{ℕ, zero, suc, ◌+◌, ◌*◌, ◌-◌, ◌≤◌}
 use native.Mathlib.Omega.{arith}
+use borrow.Author.Rules.{rules}
 use native.Mathlib.Nat.{add-zero}
 use mathlib.Core.Path.{◌≡◌, refl, sym, ap, ap₂, ◌∙◌}
 use mathlib.Core.Bool.{Bool, true, false}
@@ -31,18 +32,10 @@ use Rattle.printing.specs.Printed.{lines_from}
 
 -- ---- one reply
 kind_played : (y : Reply) → 1 ≤ reply_kind y → was_played y ≡ true
-kind_played NotPlayed h = absurd (omega arith)
-kind_played Silent h = refl
-kind_played (Byte v m) h = refl
-kind_played Ack h = refl
-kind_played NoAck h = refl
-kind_played Starts h = refl
-kind_played Ends h = refl
-kind_played NoCycle h = refl
+kind_played y h = search rules
 
 zero_first : (n : ℕ) → ◌≡◌ {A = ℕ} (get_or (replicate n 0) 0 0) 0
-zero_first zero = refl
-zero_first (suc n) = refl
+zero_first n = search rules
 
 -- behind the last reply there are zeros
 behind : (w : List ℕ) (n k : ℕ) → length w ≡ 4 * k → was_played (reply_at (w ++ replicate n 0) k) ≡ false

@@ -1,6 +1,7 @@
 -- The listings of what the call leaves, of a readable text and of a refusal: the records that are listed are exactly those played, and the bytes are those printed.
 use Prim.Native.Nat.{ℕ, ◌*◌, ◌-◌, ◌≤◌}
 use native.Mathlib.Omega.{arith}
+use borrow.Author.Rules.{rules}
 use mathlib.Core.Path.{◌≡◌, refl, sym, ap, ap₂, ◌∙◌}
 use mathlib.Core.Bool.{Bool, true}
 use mathlib.Core.List.{List, [], ◌∷◌, ◌++◌, append-nil}
@@ -67,23 +68,14 @@ module _ (b : Board) (rs : List Record) where
 
   printed_told : (z : meaning.Answer Machine Reply) → printed_of b rs z ≡ told heading (number_of z) (stamp_of z) (count_of z) 0 (lines_from 0 (records_of b z rs) (shown_at (on_machine b) (records_of b z rs) (outcome_of z)))
   unfolding printed_of verdict_line told is_refusal last_line
-  printed_told (meaning.settled v) = refl
-  printed_told (meaning.stopped crowded t v) = refl
-  printed_told (meaning.stopped differ t v) = refl
-  printed_told (meaning.stopped lost t v) = refl
+  printed_told z = search rules
 
   pages_told : (z : meaning.Answer Machine Reply) → pages_printed_of b rs z ≡ told pages_heading (number_of z) (stamp_of z) (count_of z) 0 (written_lines (outcome_of z).state.times)
   unfolding pages_printed_of verdict_line told is_refusal last_line
-  pages_told (meaning.settled v) = refl
-  pages_told (meaning.stopped crowded t v) = refl
-  pages_told (meaning.stopped differ t v) = refl
-  pages_told (meaning.stopped lost t v) = refl
+  pages_told z = search rules
 
   number_small : (z : meaning.Answer Machine Reply) → number_of z ≤ largest
-  number_small (meaning.settled v) = omega arith
-  number_small (meaning.stopped crowded t v) = omega arith
-  number_small (meaning.stopped differ t v) = omega arith
-  number_small (meaning.stopped lost t v) = omega arith
+  number_small z = search rules
 
 lines_most : (ps : List Record) (ys : List Reply) → length (reply_lines ps ys) ≤ 4 * length ps
 unfolding reply_lines
