@@ -9,7 +9,6 @@ use mathlib.Core.List.{List, [], ◌∷◌, ◌++◌}
 use lib.ListN.{length, drop, length-append}
 use borrow.Author.Tests.{eq-eqb, le-ltb, ltb-false}
 use Rattle.record.specs.declared.LevelsAnswer.{LevelsAnswer}
-use Rattle.record.specs.declared.LevelsAnswer.TheVariants.{BadLevel, Together, TooShort}
 use Rattle.record.specs.declared.Record.{Record}
 use Rattle.record.specs.Answers.{levels_answer_number}
 use Rattle.record.specs.Lengths.{result_length}

@@ -7,8 +7,8 @@ use mathlib.Core.Logic.{⊎_elim}
 use mathlib.Core.List.{List, ◌++◌}
 use lib.ListN.{length, drop, length-append}
 use borrow.Author.Tests.{eq-eqb}
-use Rattle.std.specs.Prelude.{is_ok, Ok, Err}
-use Rattle.law.specs.Choice.{lt_or_le, true_not_false}
+use Rattle.std.specs.Prelude.{is_ok}
+use Rattle.law.specs.Choice.{lt_or_le}
 use Rattle.record.specs.Lengths.{result_length}
 use Rattle.capture.specs.Merge.{Judgement, refused, merged}
 use Rattle.capture.proofs.OneJudgement.{one_judgement}

@@ -1,5 +1,5 @@
 -- The replies that the call leaves, read back: each record that is shown was played, with its reply and its match, and the one behind the last was not.
-use Prim.Native.Nat.{ℕ, zero, suc, ◌+◌, ◌*◌, ◌-◌, ◌≤◌}
+use Prim.Native.Nat.{ℕ, suc, ◌+◌, ◌*◌, ◌-◌, ◌≤◌}
 use native.Mathlib.Omega.{arith}
 use borrow.Author.Rules.{rules}
 use native.Mathlib.Nat.{add-zero}
@@ -13,7 +13,6 @@ use Rattle.meaning.specs.Listing.{said}
 use Rattle.record.specs.declared.Board.{Board}
 use Rattle.record.specs.declared.Record.{Record}
 use Rattle.record.specs.declared.Reply.{Reply}
-use Rattle.record.specs.declared.Reply.TheVariants.{NotPlayed, Silent, Byte, Ack, NoAck, Starts, Ends, NoCycle}
 use Rattle.record.specs.declared.Match.{Match}
 use Rattle.record.specs.Replies.{reply_kind}
 use Rattle.record.specs.ReplyOf.{reply_of}
