@@ -14,6 +14,7 @@ ghost use Rattle.buffers.specs.Put.{replies_with};
 use record::{Chip, Match, Reply};
 
 // None of the grounds of refusal 1 holds.
+// Kept: the images are four slices here and below: hazelcrook_replay, which C calls, has them so, and they are asked before the machine takes them as one value.
 #[tactic(auto, unfolding(crate::specs::Buffers::fit))]
 pub fn fits_all(
     flash: &[u8],

@@ -1,4 +1,5 @@
 // What is exported for C: each function of desk that a C caller calls, under the same name and with the same clauses.
+// Kept: chips and answers are numbers here, and each lent buffer is a slice: the C interface.
 #![tactic(auto)]
 
 ghost use Rattle.std.specs.Prelude.{◌≡◌};

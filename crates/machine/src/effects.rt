@@ -2,7 +2,7 @@
 ghost use Rattle.std.specs.Prelude.{◌≡◌};
 ghost use Rattle.image.specs.Image.{image_of};
 ghost use Rattle.times.specs.Times.{on_pages};
-ghost use Rattle.machine.specs.Effects.{stroke_of, line_stroke, stroke_for, reached, flash_pages, eeprom_pages, Touches, flash_touched, eeprom_touched, program_by, erase_by, sent_in, store_by};
+ghost use Rattle.machine.specs.Effects.{stroke_of, line_stroke, stroke_for, reached, flash_pages, eeprom_pages, stroke_pages, Touches, program_by, erase_by, sent_in, store_by};
 
 use eeprom::{Eeprom, Sent};
 use flash::{Flash, FlashCycle};
@@ -92,16 +92,21 @@ fn touched<P: FnOnce() -> Pages>(stroke: Stroke, pages: P) -> Pages
     }
 }
 
-pub(crate) fn flash_touched(stroke: Stroke, watched: u8, chip: Flash) -> Pages
-    ensures { result ≡ flash_touched stroke watched chip }
+pub(crate) fn flash_touched(
+    stroke: Stroke,
+    watched: u8,
+    cycle: Option<FlashCycle>,
+    status: Option<u8>,
+) -> Pages
+    ensures { result ≡ stroke_pages stroke (flash_pages watched cycle status) }
 {
-    touched(stroke, || flash_pages(watched, chip.cycle, chip.status))
+    touched(stroke, || flash_pages(watched, cycle, status))
 }
 
-pub(crate) fn eeprom_touched(stroke: Stroke, chip: Eeprom) -> Pages
-    ensures { result ≡ eeprom_touched stroke chip }
+pub(crate) fn eeprom_touched(stroke: Stroke, cycle: Option<Sent>) -> Pages
+    ensures { result ≡ stroke_pages stroke (eeprom_pages cycle) }
 {
-    touched(stroke, || eeprom_pages(chip.cycle))
+    touched(stroke, || eeprom_pages(cycle))
 }
 
 // What a stroke makes of the flash's image, on the pages that it touches.

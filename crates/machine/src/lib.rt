@@ -42,7 +42,12 @@ pub fn play(board: Board, controls: Controls, rec: Record, images: &mut LentImag
     let reply = replies::deliver_for(rec.event, images, skeleton);
 
     let on_flash = effects::stroke_for(Chip::Flash, controls.lines, rec.event, skeleton);
-    let flash_pages = effects::flash_touched(on_flash, board.sector, controls.flash);
+    let flash_pages = effects::flash_touched(
+        on_flash,
+        board.sector,
+        controls.flash.cycle,
+        controls.flash.status,
+    );
     effects::change_flash(
         on_flash,
         flash_pages,
@@ -52,7 +57,7 @@ pub fn play(board: Board, controls: Controls, rec: Record, images: &mut LentImag
     );
 
     let on_eeprom = effects::stroke_for(Chip::Eeprom, controls.lines, rec.event, skeleton);
-    let eeprom_pages = effects::eeprom_touched(on_eeprom, controls.eeprom);
+    let eeprom_pages = effects::eeprom_touched(on_eeprom, controls.eeprom.cycle);
     effects::change_eeprom(
         on_eeprom,
         eeprom_pages,
