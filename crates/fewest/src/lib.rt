@@ -2,6 +2,7 @@
 // It has no code but the tests by which pages are told apart.
 #![tactic(auto)]
 
+// Kept: the definitions of `specs/Plan.antt` take the test as a value (`holds`, `any_in`, `test_in`), and a sector's state chooses it.
 // Tests of a place by its present byte and its wanted one: they differ; a bit has to rise from 0 to 1; the wanted one is not ff.
 #[derive(Clone, Copy, Debug, PartialEq, Eq)]
 pub enum Test {

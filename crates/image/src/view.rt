@@ -5,6 +5,7 @@ ghost use Rattle.image.specs.View.{can_show, view_place, view_length, Shows};
 
 use record::Chip;
 
+// Kept: `view` promises `Shows`, whose part is empty on refusal 11; the C interface asks place and length as numbers.
 // Page `number` of the image asked for. The empty part is refusal 11: no page is empty.
 pub fn view<'a>(flash: &'a [u8], eeprom: &'a [u8], chip: Chip, number: usize) -> &'a [u8]
     ensures { Shows (per_chip flash.entry eeprom.entry) chip number result }

@@ -22,7 +22,13 @@ counted_from a (suc n) f =
 pub counted : (n : ℕ) (f : ℕ → Bool) → count_by f (range_with_len 0 n) ≡ count_below n f
 counted n f = counted_from 0 n f ∙ sum_same n (λ i. one (f (0 + i))) (λ i. one (f i)) (λ i h. ap (λ (k : ℕ). one (f k)) (zero-add i))
 
-pub either_is : (x y : Bool) → (x || y) ≡ pick x true y
+pub either_last : (x y : Bool) → (x || y) ≡ pick y true x
+either_last true true = refl
+either_last true false = refl
+either_last false true = refl
+either_last false false = refl
+
+either_is : (x y : Bool) → (x || y) ≡ pick x true y
 either_is true y = refl
 either_is false y = refl
 

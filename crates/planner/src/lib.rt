@@ -12,7 +12,7 @@ ghost use Rattle.fewest.specs.Below.{count_below};
 ghost use Rattle.fewest.specs.Entries.{program};
 ghost use Rattle.fewest.specs.Fewest.{address, spelled_entry, spelled_list, page_of};
 ghost use Rattle.fewest.specs.Call.{left_as, laid_over, Plans};
-ghost use Rattle.fewest.specs.Plan.{holds, any_in, in_page, in_sector, pages_of, erased, test_in, erase_of, erases, erases_in, program_if, sector_programs, programs, programs_in, plan_by, by_chip, differs_locked, fitting, laid, made};
+ghost use Rattle.fewest.specs.Plan.{holds, fitting, laid, made};
 ghost use Rattle.planner.specs.Kinds.{kind_byte, Tells};
 ghost use Rattle.planner.specs.Made.{made_of};
 
@@ -107,15 +107,17 @@ struct Contents<'a> {
 }
 
 impl Contents<'_> {
+    ghost use Rattle.planner.specs.Ways.{any_in, in_page, in_sector, pages_of, erase_of, sector_erases, program_if, sector_programs, by_chip, differs_locked};
+
     // Does the test hold of any of `count` places from `first` on? Every place is looked at.
     fn any_in(self, test: Test, first: usize, count: usize) -> bool
         requires { first + count ≤ flash_size }
-        ensures { result ≡ any_in self.entry.present.now self.entry.wanted.now test first count }
+        ensures { result ≡ any_in self.entry test first count }
     {
         let mut some = false;
         for q in 0..count {
             let k = first + q;
-            some = tested(test, self.present[k], self.wanted[k]) | some;
+            some |= tested(test, self.present[k], self.wanted[k]);
         }
         some
     }
@@ -123,7 +125,7 @@ impl Contents<'_> {
     // Of any place of page n?
     fn in_page(self, test: Test, n: usize) -> bool
         requires { n < chip_pages }
-        ensures { result ≡ in_page self.entry.present.now self.entry.wanted.now test n }
+        ensures { result ≡ in_page self.entry test n }
     {
         self.any_in(test, PAGE * n, PAGE)
     }
@@ -131,7 +133,7 @@ impl Contents<'_> {
     // Of any place of sector s, counted from 0?
     fn in_sector(self, test: Test, s: usize) -> bool
         requires { s < flash_sectors }
-        ensures { result ≡ in_sector self.entry.present.now self.entry.wanted.now test s }
+        ensures { result ≡ in_sector self.entry test s }
     {
         self.any_in(test, SECTOR * s, SECTOR)
     }
@@ -139,7 +141,7 @@ impl Contents<'_> {
     // How many pages of sector s the test holds of.
     fn pages_of(self, test: Test, s: usize) -> usize
         requires { s < flash_sectors }
-        ensures value { result ≡ pages_of self.entry.present.now self.entry.wanted.now test s }
+        ensures value { result ≡ pages_of self.entry test s }
         ensures small { result ≤ sector_pages }
     {
         (0..SECTOR_PAGES)
@@ -149,7 +151,7 @@ impl Contents<'_> {
 
     // How many sectors have a bit that has to rise.
     fn count_rising(self) -> usize
-        ensures value { result ≡ count_below flash_sectors (in_sector self.entry.present.now self.entry.wanted.now Rises) }
+        ensures value { result ≡ count_below flash_sectors (in_sector self.entry Rises) }
         ensures small { result ≤ flash_sectors }
     {
         (0..SECTORS)
@@ -159,7 +161,7 @@ impl Contents<'_> {
 
     // Refusal 15: a byte that differs stands in a locked sector.
     fn differs_locked(self, status: u8) -> bool
-        ensures { result ≡ differs_locked self.entry.present.now self.entry.wanted.now status }
+        ensures { result ≡ differs_locked self.entry status }
     {
         (0..SECTORS).any(|s| is_locked(status, s) && self.in_sector(Test::Differs, s))
     }
@@ -167,7 +169,7 @@ impl Contents<'_> {
     // Does a chip erase pay?
     #[tactic(auto, unfolding(fewest::specs::Plan::by_chip))]
     fn by_chip(self, status: u8) -> bool
-        ensures { result ≡ by_chip self.entry.present.now self.entry.wanted.now status }
+        ensures { result ≡ by_chip self.entry status }
     {
         let with = Way {
             contents: self,
@@ -184,9 +186,9 @@ impl Contents<'_> {
 
     // The erase of sector s where it is needed, else nothing; where the next entry goes. Sector s counts from 0.
     fn put_erase_if(self, list: &mut [u8], at: usize, s: usize) -> usize
-        requires { (s < flash_sectors) × (at + length (spelled_list (erase_of self.present.now self.wanted.now s)) ≤ length list.old) }
-        ensures list_after { list.new ≡ sets list.old at (spelled_list (erase_of self.entry.present.now self.entry.wanted.now s)) }
-        ensures next { result ≡ at + length (spelled_list (erase_of self.entry.present.now self.entry.wanted.now s)) }
+        requires { (s < flash_sectors) × (at + length (spelled_list (erase_of self s)) ≤ length list.old) }
+        ensures list_after { list.new ≡ sets list.old at (spelled_list (erase_of self.entry s)) }
+        ensures next { result ≡ at + length (spelled_list (erase_of self.entry s)) }
     {
         if !self.in_sector(Test::Rises, s) {
             return at;
@@ -208,9 +210,9 @@ impl Contents<'_> {
 
     // The program of page n where the test holds of it, else nothing; where the next entry goes.
     fn put_program_if(self, list: &mut [u8], at: usize, test: Test, n: usize) -> usize
-        requires { (n < chip_pages) × (at + length (spelled_list (program_if self.present.now self.wanted.now test n)) ≤ length list.old) }
-        ensures list_after { list.new ≡ sets list.old at (spelled_list (program_if self.entry.present.now self.entry.wanted.now test n)) }
-        ensures next { result ≡ at + length (spelled_list (program_if self.entry.present.now self.entry.wanted.now test n)) }
+        requires { (n < chip_pages) × (at + length (spelled_list (program_if self test n)) ≤ length list.old) }
+        ensures list_after { list.new ≡ sets list.old at (spelled_list (program_if self.entry test n)) }
+        ensures next { result ≡ at + length (spelled_list (program_if self.entry test n)) }
     {
         if !self.in_page(test, n) {
             return at;
@@ -221,9 +223,9 @@ impl Contents<'_> {
 
     // The erases of the sectors where one is needed, by rising address. Where the next entry goes.
     fn put_sector_erases(self, list: &mut [u8]) -> usize
-        requires { length (spelled_list (erases self.present.now self.wanted.now false)) ≤ length list.old }
-        ensures list_after { list.new ≡ sets list.old 0 (spelled_list (erases self.entry.present.now self.entry.wanted.now false)) }
-        ensures next { result ≡ length (spelled_list (erases self.entry.present.now self.entry.wanted.now false)) }
+        requires { length (spelled_list (sector_erases self)) ≤ length list.old }
+        ensures list_after { list.new ≡ sets list.old 0 (spelled_list (sector_erases self.entry)) }
+        ensures next { result ≡ length (spelled_list (sector_erases self.entry)) }
     {
         let mut at: usize = 0;
         for s in 0..SECTORS {
@@ -234,9 +236,9 @@ impl Contents<'_> {
 
     // The programs of sector s: its pages of which the test holds, by rising address, from `first` on. Where the next entry goes.
     fn put_sector_programs(self, list: &mut [u8], first: usize, test: Test, s: usize) -> usize
-        requires { (s < flash_sectors) × (first + length (spelled_list (sector_programs self.present.now self.wanted.now test s)) ≤ length list.old) }
-        ensures list_after { list.new ≡ sets list.old first (spelled_list (sector_programs self.entry.present.now self.entry.wanted.now test s)) }
-        ensures next { result ≡ first + length (spelled_list (sector_programs self.entry.present.now self.entry.wanted.now test s)) }
+        requires { (s < flash_sectors) × (first + length (spelled_list (sector_programs self test s)) ≤ length list.old) }
+        ensures list_after { list.new ≡ sets list.old first (spelled_list (sector_programs self.entry test s)) }
+        ensures next { result ≡ first + length (spelled_list (sector_programs self.entry test s)) }
     {
         let mut at = first;
         for j in 0..SECTOR_PAGES {
@@ -255,10 +257,12 @@ struct Way<'a> {
 }
 
 impl Way<'_> {
+    ghost use Rattle.planner.specs.Ways.{erased, test_in, erases, erases_in, programs, programs_in, plan};
+
     // Is sector s erased, by the chip's erase or by its own?
     fn is_erased(self, s: usize) -> bool
         requires { s < flash_sectors }
-        ensures { result ≡ erased self.entry.contents.present.now self.entry.contents.wanted.now self.entry.status self.entry.chip s }
+        ensures { result ≡ erased self.entry s }
     {
         if self.chip {
             !is_locked(self.status, s)
@@ -270,7 +274,7 @@ impl Way<'_> {
     // Which of its pages are programmed.
     fn test_in(self, s: usize) -> Test
         requires { s < flash_sectors }
-        ensures { result ≡ test_in self.entry.contents.present.now self.entry.contents.wanted.now self.entry.status self.entry.chip s }
+        ensures { result ≡ test_in self.entry s }
     {
         if self.is_erased(s) {
             Test::Unblank
@@ -282,7 +286,7 @@ impl Way<'_> {
     // How many erases it has.
     #[tactic(auto, unfolding(fewest::specs::Plan::erases_in))]
     fn count_erases(self) -> usize
-        ensures value { result ≡ erases_in self.entry.contents.present.now self.entry.contents.wanted.now self.entry.chip }
+        ensures value { result ≡ erases_in self.entry }
         ensures small { result ≤ flash_sectors }
     {
         if self.chip {
@@ -294,7 +298,7 @@ impl Way<'_> {
 
     // How many programs it has.
     fn count_programs(self) -> usize
-        ensures value { result ≡ programs_in self.entry.contents.present.now self.entry.contents.wanted.now self.entry.status self.entry.chip }
+        ensures value { result ≡ programs_in self.entry }
         ensures small { result ≤ chip_pages }
     {
         let mut count: usize = 0;
@@ -306,16 +310,16 @@ impl Way<'_> {
 
     // How many entries, and so cycles.
     fn count(self) -> usize
-        ensures { result ≡ erases_in self.entry.contents.present.now self.entry.contents.wanted.now self.entry.chip + programs_in self.entry.contents.present.now self.entry.contents.wanted.now self.entry.status self.entry.chip }
+        ensures { result ≡ erases_in self.entry + programs_in self.entry }
     {
         self.count_erases() + self.count_programs()
     }
 
     // The erases: the chip's, or those of the sectors where one is needed. Where the next entry goes.
     fn put_erases(self, list: &mut [u8]) -> usize
-        requires { length (spelled_list (erases self.contents.present.now self.contents.wanted.now self.chip)) ≤ length list.old }
-        ensures list_after { list.new ≡ sets list.old 0 (spelled_list (erases self.entry.contents.present.now self.entry.contents.wanted.now self.entry.chip)) }
-        ensures next { result ≡ length (spelled_list (erases self.entry.contents.present.now self.entry.contents.wanted.now self.entry.chip)) }
+        requires { length (spelled_list (erases self)) ≤ length list.old }
+        ensures list_after { list.new ≡ sets list.old 0 (spelled_list (erases self.entry)) }
+        ensures next { result ≡ length (spelled_list (erases self.entry)) }
     {
         if self.chip {
             put_head(list, 0, Kind::ChipErase, 0);
@@ -326,8 +330,8 @@ impl Way<'_> {
 
     // The programs, by rising address, from `first` on.
     fn put_programs(self, list: &mut [u8], first: usize)
-        requires { first + length (spelled_list (programs self.contents.present.now self.contents.wanted.now self.status self.chip)) ≤ length list.old }
-        ensures { list.new ≡ sets list.old first (spelled_list (programs self.entry.contents.present.now self.entry.contents.wanted.now self.entry.status self.entry.chip)) }
+        requires { first + length (spelled_list (programs self)) ≤ length list.old }
+        ensures { list.new ≡ sets list.old first (spelled_list (programs self.entry)) }
     {
         let mut at = first;
         for s in 0..SECTORS {
@@ -338,8 +342,8 @@ impl Way<'_> {
 
     // The whole plan.
     fn put(self, list: &mut [u8])
-        requires { length (spelled_list (plan_by self.contents.present.now self.contents.wanted.now self.status self.chip)) ≤ length list.old }
-        ensures { list.new ≡ laid_over (spelled_list (plan_by self.entry.contents.present.now self.entry.contents.wanted.now self.entry.status self.entry.chip)) list.old }
+        requires { length (spelled_list (plan self)) ≤ length list.old }
+        ensures { list.new ≡ laid_over (spelled_list (plan self.entry)) list.old }
     {
         let at = self.put_erases(list);
         self.put_programs(list, at);
@@ -347,7 +351,7 @@ impl Way<'_> {
 
     // The plan, laid where the list has room for it, and the number of its entries.
     fn lay(self, list: &mut [u8]) -> Result<u32, PlanAnswer>
-        ensures { made_of result list.new ≡ laid (plan_by self.entry.contents.present.now self.entry.contents.wanted.now self.entry.status self.entry.chip) list.old }
+        ensures { made_of result list.new ≡ laid (plan self.entry) list.old }
     {
         let erased = self.count_erases();
         let programmed = self.count_programs();
@@ -405,6 +409,7 @@ fn make(
     way.lay(list)
 }
 
+// Kept: the answer is a number by the C interface, which `desk_c` hands on.
 // The list of erases and programs that takes the flash from its present content to the wanted one in the fewest write cycles: the list gets the entries at its start,
 // the result the answer and their number. What is refused leaves the list alone.
 pub fn plan(present: &[u8], wanted: &[u8], status: u8, list: &mut [u8], res: &mut [u8]) -> u32
