@@ -2,6 +2,7 @@
 use mathlib.Core.Path.{◌≡◌, refl, sym, subst}
 use mathlib.Core.List.{List, [], ◌∷◌}
 use Prim.Native.Nat.{ℕ}
+use Rattle.std.proofs.Common.{rules}
 use Rattle.std.specs.Prelude.{Option, Some}
 use Rattle.law.specs.Words.{filter, keep}
 use Rattle.record.specs.declared.FlashEvent.TheVariants as flash
@@ -10,7 +11,6 @@ use Rattle.record.specs.declared.Event.{Event}
 use Rattle.record.specs.declared.Event.TheVariants.{Flash, Eeprom, Line}
 use Rattle.record.specs.declared.Record.{Record}
 use Rattle.text.specs.declared.buses.Bus.{Bus}
-use Rattle.text.specs.declared.buses.Bus.TheVariants.{Closed, Open, Spoilt}
 use Rattle.text.specs.declared.buses.Buses.{Buses}
 use Rattle.text.specs.Buses.{flash_bus, eeprom_bus, with_flash, with_eeprom, after, Possible}
 use Rattle.capture.specs.Taken.{flash_movers, eeprom_movers}
@@ -37,14 +37,10 @@ abbrev Apart : List Record → Type 0
 Apart m = (x y : Bus) → Runs flash_to x (flash_movers m) → Runs eeprom_to y (eeprom_movers m) → Possible (after (buses x y) m)
 
 end_flash : (x : Bus) → flash_bus x flash.End ≡ Some x
-end_flash Closed = refl
-end_flash Open = refl
-end_flash Spoilt = refl
+end_flash x = search rules
 
 end_eeprom : (x : Bus) → eeprom_bus x eeprom.End ≡ Some x
-end_eeprom Closed = refl
-end_eeprom Open = refl
-end_eeprom Spoilt = refl
+end_eeprom x = search rules
 
 module _ (m : List Record) (h : Apart m) where
   by_flash_lem : (x y : Bus) (k : Option Bus) (z : Bus) → k ≡ Some z → Runs flash_to z (flash_movers m) → Runs eeprom_to y (eeprom_movers m) →

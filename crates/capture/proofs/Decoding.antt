@@ -1,5 +1,5 @@
 -- The records that a machine gives of a capture without a fault: of its own bus, possible, in range, and their stamps never go back. Said once of both machines.
-use mathlib.Core.Path.{◌≡◌, refl, sym, subst}
+use mathlib.Core.Path.{◌≡◌, refl, subst}
 use mathlib.Core.Bool.{Bool, true, false}
 use mathlib.Core.Logic.{⊎_elim}
 use mathlib.Core.List.{List, [], ◌∷◌, ◌++◌}
@@ -7,12 +7,12 @@ use Prim.Native.Nat.{ℕ, ◌+◌, ◌*◌, ◌≤◌, ◌<◌}
 use native.Mathlib.Omega.{arith}
 use borrow.Author.Tests.{ltb-false}
 use lib.Dec.{ltb, eqb}
-use Rattle.law.specs.Choice.{true_not_false, pick_says, of_both}
+use Rattle.std.proofs.Common.{rules}
+use Rattle.law.specs.Choice.{pick_says, of_both}
 use Rattle.law.specs.Words.{All, Rising}
 use Rattle.law.specs.Lists.{all_append, all_map}
 use Rattle.law.specs.Ordering.{rising_append, rising_level}
 use Rattle.record.specs.declared.Event.{Event}
-use Rattle.record.specs.declared.Event.TheVariants.{Flash, Eeprom, Line}
 use Rattle.record.specs.declared.Record.{Record}
 use Rattle.field.specs.Decimal.{largest}
 use Rattle.line.specs.Records.{EventOk}
@@ -196,16 +196,13 @@ turn_all (Bits.Flash s) a b g = (tt, flash_all s a.spi b.spi)
 turn_all (Bits.Wires s) a b g = wire_all s a.wires b.wires g
 
 same_to : (s : Bits) (a b : Level) → to_of (turn_of s a b).bits ≡ to_of s
-same_to (Bits.Flash s) a b = refl
-same_to (Bits.Wires s) a b = refl
+same_to s a b = search rules
 
 same_bus : (s : Bits) (a b : Level) (e : Event) → OfBus (turn_of s a b).bits e → OfBus s e
-same_bus (Bits.Flash s) a b e h = h
-same_bus (Bits.Wires s) a b e h = h
+same_bus s a b e h = search rules
 
 same_place : (s : Bits) (a b : Level) → place_for (turn_of s a b).bits ≡ place_for s
-same_place (Bits.Flash s) a b = refl
-same_place (Bits.Wires s) a b = refl
+same_place s a b = search rules
 
 -- ---- and over the lines of a capture: possible
 pub decoded_runs : (s : Bits) (a : Level) (ls : List Level) → Runs (to_of s) (bus_at s a) (decoded_from s a ls)
@@ -245,12 +242,7 @@ decoded_all ts P s a (b ∷ ls) g f p =
     (decoded_all ts P (turn_of s a b).bits b ls turn.0 f.2 (λ t e h k o. p t e (omega arith) k (same_bus s a b e o)))
 
 number_of_lem : (s : Bits) (t : ℕ) (e : Event) → OfBus s e → number_of (record_at t e) ≡ t * 3 + place_for s
-number_of_lem (Bits.Flash s) t (Flash e) o = refl
-number_of_lem (Bits.Flash s) t (Eeprom e) o = absurd (true_not_false (sym o.0))
-number_of_lem (Bits.Flash s) t (Line e) o = absurd (true_not_false (sym o.0))
-number_of_lem (Bits.Wires s) t (Flash e) o = absurd (true_not_false (sym o.0))
-number_of_lem (Bits.Wires s) t (Eeprom e) o = refl
-number_of_lem (Bits.Wires s) t (Line e) o = absurd (true_not_false (sym o.0))
+number_of_lem s t e o = search rules
 
 pub decoded_rising : (ts : List Record) (s : Bits) (a : Level) (ls : List Level) → Good s → Faultless ts (line a) ls → Rising number_of (decoded_from s a ls)
 unfolding decoded_from Faultless Rising

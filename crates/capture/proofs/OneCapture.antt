@@ -10,7 +10,6 @@ use Rattle.record.specs.declared.Record.{Record}
 use Rattle.record.specs.declared.LevelsAnswer.{LevelsAnswer}
 use Rattle.field.specs.Reads.{Stands}
 use Rattle.field.proofs.Reading.{stands_length}
-use Rattle.field.proofs.Answers.{zero_one}
 use Rattle.level.specs.declared.Level.{Level}
 use Rattle.level.specs.Spelled.{spelled_level, LevelOk}
 use Rattle.level.proofs.Theorems.{one_level, level_same, level_length}
@@ -37,7 +36,7 @@ agree ts (l ∷ ls) (l' ∷ ls') p g g' rest rest' s s' e =
     ∙ ap (λ (x : Level). drop (length (spelled_level x)) (spelled_level l' ++ (spelled_levels ls' ++ rest'))) h ∙ drop-append_seam (spelled_level l') (spelled_levels ls' ++ rest')))
 
 pub bad_not_nothing : {A : Type 0} {a : LevelsAnswer} → ◌≡◌ {A = Fault} (Err a) (Ok tt) → A
-bad_not_nothing e = absurd (zero_one (cc))
+bad_not_nothing e = cc
 
 -- a reading up to where it cannot go on
 record Ends (ts : List Record) (text : List ℕ) (ls : List Level) : Type 0 where

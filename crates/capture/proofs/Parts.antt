@@ -1,15 +1,14 @@
 -- The parts that are taken from the logger: what is of one is of no other and moves no bus, together they are all that is taken, and each stands by rising number.
-use mathlib.Core.Path.{◌≡◌, refl, sym, ap}
-use mathlib.Core.Bool.{Bool, true, false, not}
+use mathlib.Core.Path.{◌≡◌, refl}
+use mathlib.Core.Bool.{Bool, true, false}
 use mathlib.Core.List.{List, [], ◌∷◌, ◌++◌}
 use Prim.Native.Nat.{ℕ, ◌+◌, ◌≤◌}
 use native.Mathlib.Omega.{arith}
-use Rattle.law.specs.Choice.{true_not_false}
+use Rattle.std.proofs.Common.{rules}
 use Rattle.law.specs.Words.{filter, keep, All, Rising}
 use Rattle.law.specs.Lists.{all_pass}
 use Rattle.law.specs.Ordering.{total, total_append, order_total, rising_filter}
 use Rattle.record.specs.declared.Event.{Event}
-use Rattle.record.specs.declared.Event.TheVariants.{Flash, Eeprom, Line}
 use Rattle.record.specs.declared.Record.{Record}
 use Rattle.capture.specs.declared.Part.{Part}
 use Rattle.capture.specs.declared.Part.TheVariants.{FlashEnds, EepromEnds, Lines}
@@ -18,48 +17,21 @@ use Rattle.level.specs.declared.Level.{Level}
 use Rattle.decode.specs.Decoded.{decoded_from, decoded_by, flash_start, wires_start, flash_of, eeprom_of}
 use Rattle.capture.specs.Merge.{channel_place, number_of, Merged}
 
-no : {A : Type 0} → false ≡ true → A
-no e = absurd (true_not_false (sym e))
-
 pub part_taken : (p : Part) (e : Event) → is_of p e ≡ true → taken e ≡ true
-part_taken FlashEnds (Flash e) h = h
-part_taken FlashEnds (Eeprom e) h = no h
-part_taken FlashEnds (Line e) h = no h
-part_taken EepromEnds (Flash e) h = no h
-part_taken EepromEnds (Eeprom e) h = h
-part_taken EepromEnds (Line e) h = no h
-part_taken Lines (Flash e) h = no h
-part_taken Lines (Eeprom e) h = no h
-part_taken Lines (Line e) h = refl
+part_taken p e h = search rules
 
 -- what is taken moves no bus, and what moves one is not taken
 pub flash_stays : (e : Event) → taken e ≡ true → moves_flash e ≡ false
-flash_stays (Flash e) h = ap not h
-flash_stays (Eeprom e) h = refl
-flash_stays (Line e) h = refl
+flash_stays e h = search rules
 
 pub eeprom_stays : (e : Event) → taken e ≡ true → moves_eeprom e ≡ false
-eeprom_stays (Flash e) h = refl
-eeprom_stays (Eeprom e) h = ap not h
-eeprom_stays (Line e) h = refl
-
-not_both : (b : Bool) → not b ≡ true → b ≡ false
-not_both true h = no h
-not_both false h = refl
+eeprom_stays e h = search rules
 
 pub flash_not_taken : (p : Part) (e : Event) → moves_flash e ≡ true → is_of p e ≡ false
-flash_not_taken FlashEnds (Flash e) h = not_both _ h
-flash_not_taken EepromEnds (Flash e) h = refl
-flash_not_taken Lines (Flash e) h = refl
-flash_not_taken p (Eeprom e) h = no h
-flash_not_taken p (Line e) h = no h
+flash_not_taken p e h = search rules
 
 pub eeprom_not_taken : (p : Part) (e : Event) → moves_eeprom e ≡ true → is_of p e ≡ false
-eeprom_not_taken p (Flash e) h = no h
-eeprom_not_taken FlashEnds (Eeprom e) h = refl
-eeprom_not_taken EepromEnds (Eeprom e) h = not_both _ h
-eeprom_not_taken Lines (Eeprom e) h = refl
-eeprom_not_taken p (Line e) h = no h
+eeprom_not_taken p e h = search rules
 
 -- ---- one part and another
 abbrev pub same : Part → Part → Bool
@@ -74,27 +46,7 @@ same Lines EepromEnds = false
 same Lines Lines = true
 
 pub of_one : (p q : Part) (e : Event) → is_of q e ≡ true → is_of p e ≡ same p q
-of_one FlashEnds FlashEnds e h = h
-of_one EepromEnds EepromEnds e h = h
-of_one Lines Lines e h = h
-of_one FlashEnds EepromEnds (Flash e) h = no h
-of_one FlashEnds EepromEnds (Eeprom e) h = refl
-of_one FlashEnds EepromEnds (Line e) h = no h
-of_one FlashEnds Lines (Flash e) h = no h
-of_one FlashEnds Lines (Eeprom e) h = no h
-of_one FlashEnds Lines (Line e) h = refl
-of_one EepromEnds FlashEnds (Flash e) h = refl
-of_one EepromEnds FlashEnds (Eeprom e) h = no h
-of_one EepromEnds FlashEnds (Line e) h = no h
-of_one EepromEnds Lines (Flash e) h = no h
-of_one EepromEnds Lines (Eeprom e) h = no h
-of_one EepromEnds Lines (Line e) h = refl
-of_one Lines FlashEnds (Flash e) h = refl
-of_one Lines FlashEnds (Eeprom e) h = no h
-of_one Lines FlashEnds (Line e) h = no h
-of_one Lines EepromEnds (Flash e) h = no h
-of_one Lines EepromEnds (Eeprom e) h = refl
-of_one Lines EepromEnds (Line e) h = no h
+of_one p q e h = search rules
 
 -- ---- all parts together are what is taken: every sum over them is the sum over it
 worth : Bool → ℕ → ℕ
@@ -109,9 +61,7 @@ keep_total f false r l = omega arith
 -- a record that is taken is of one part
 one_part : (e : Event) (n : ℕ) → worth (taken e) n ≡ worth (is_of FlashEnds e) n + worth (is_of EepromEnds e) n + worth (is_of Lines e) n
 unfolding worth
-one_part (Flash e) n = omega arith
-one_part (Eeprom e) n = omega arith
-one_part (Line e) n = omega arith
+one_part e n = search rules
 
 parts_total : (f : Record → ℕ) (rs : List Record) → total f (taken_of rs) ≡ total f (part_of FlashEnds rs) + total f (part_of EepromEnds rs) + total f (part_of Lines rs)
 unfolding filter total
@@ -163,15 +113,7 @@ place_in EepromEnds = 1
 place_in Lines = 2
 
 part_place : (p : Part) (e : Event) → is_of p e ≡ true → channel_place e ≡ place_in p
-part_place FlashEnds (Flash e) h = refl
-part_place FlashEnds (Eeprom e) h = no h
-part_place FlashEnds (Line e) h = no h
-part_place EepromEnds (Flash e) h = no h
-part_place EepromEnds (Eeprom e) h = refl
-part_place EepromEnds (Line e) h = no h
-part_place Lines (Flash e) h = no h
-part_place Lines (Eeprom e) h = no h
-part_place Lines (Line e) h = refl
+part_place p e h = search rules
 
 pub part_rising : (p : Part) (rs : List Record) → Rising (λ (r : Record). r.stamp) rs → Rising number_of (part_of p rs)
 part_rising p rs h =

@@ -1,14 +1,14 @@
 -- The judgement of two texts is one: any two answers that the promise of `judge` admits are equal.
-use mathlib.Core.Path.{◌≡◌, refl, sym, ap, subst, ◌∙◌}
+use mathlib.Core.Path.{◌≡◌, sym, ap, subst, ◌∙◌}
 use mathlib.Core.List.{List, [], ◌∷◌}
 use Prim.Native.Nat.{ℕ}
 use lib.Dec.{eqb}
 use lib.ListN.{length}
+use Rattle.std.proofs.Common.{rules}
 use Rattle.law.specs.Words.{pick}
 use Rattle.record.specs.declared.Answer.TheVariants.{Settled, BadBuffers, TooLong, BadLine, BackInTime, Impossible, Crowded, OrdersDiffer, StatusLost}
 use Rattle.record.specs.declared.LevelsAnswer.TheVariants.{BadLevel, Together, TooShort}
 use Rattle.record.specs.declared.Record.{Record}
-use Rattle.field.proofs.Answers.{zero_one}
 use Rattle.line.specs.Boards.{spelled_board}
 use Rattle.text.proofs.OneReading.{readable_one}
 use Rattle.level.specs.declared.Level.{Level}
@@ -38,27 +38,12 @@ answer_of n =
     (pick (eqb n 12) (Levels BadLevel) (Levels Together)))))))))))
 
 number_tells : (a : JudgeAnswer) → answer_of (judge_number a) ≡ a
-number_tells (Text Settled) = refl
-number_tells (Text BadBuffers) = refl
-number_tells (Text TooLong) = refl
-number_tells (Text BadLine) = refl
-number_tells (Text BackInTime) = refl
-number_tells (Text Impossible) = refl
-number_tells (Text Crowded) = refl
-number_tells (Text OrdersDiffer) = refl
-number_tells (Text StatusLost) = refl
-number_tells (Levels BadLevel) = refl
-number_tells (Levels Together) = refl
-number_tells (Levels TooShort) = refl
+number_tells a = search rules
 
 -- the code's word for a judgement that refuses
 abbrev told : Judgement → Judged
 told (refused n k f) = judged_refused (answer_of n) k f
 told (merged b m) = judged_refused (Text Settled) 0 0
-
-abbrev accepts : Judgement → ℕ
-accepts (refused n k f) = 0
-accepts (merged b m) = 1
 
 head_of : {a b : Level} {l k : List Level} → a ∷ l ≡ b ∷ k → a ≡ b
 head_of {a} e = ap (λ (l : List Level). first a l) e
@@ -72,10 +57,10 @@ judge_determined levels trace r r' (is_refused n k f h) (is_refused n' k' f' h')
     ap (λ (x : JudgeAnswer). judged_refused x k f) (sym (number_tells n)) ∙ ap told (one_judgement h h') ∙ ap (λ (x : JudgeAnswer). judged_refused x k' f') (number_tells n')
 judge_determined levels trace r r' (is_refused n k f h) (is_both b rs a ls t q s c) =
     let m = merged_some (a ∷ ls) rs in
-    absurd (zero_one (ap accepts (one_judgement h (both b rs (a ∷ ls) m.0 t q s c m.1))))
+    cc (one_judgement h (both b rs (a ∷ ls) m.0 t q s c m.1))
 judge_determined levels trace r r' (is_both b rs a ls t q s c) (is_refused n k f h) =
     let m = merged_some (a ∷ ls) rs in
-    absurd (zero_one (ap accepts (one_judgement h (both b rs (a ∷ ls) m.0 t q s c m.1))))
+    cc (one_judgement h (both b rs (a ∷ ls) m.0 t q s c m.1))
 judge_determined levels trace r r' (is_both b rs a ls t q s c) (is_both b' rs' a' ls' t' q' s' c') =
     let e = readable_one q q' in
     let g = head_of (capture_one (subst (λ (x : List Record). Captures (taken_of x) levels (a ∷ ls)) e.1 c) c') in

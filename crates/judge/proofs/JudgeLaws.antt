@@ -13,7 +13,6 @@ use Rattle.record.specs.declared.Answer.{Answer}
 use Rattle.record.specs.declared.Answer.TheVariants.{TooLong}
 use Rattle.record.specs.declared.LevelsAnswer.{LevelsAnswer}
 use Rattle.field.specs.declared.Cursor.{Cursor}
-use Rattle.field.proofs.Answers.{zero_one}
 use Rattle.line.specs.Boards.{spelled_board}
 use Rattle.text.specs.declared.checking.Refusal.{Refusal}
 use Rattle.text.specs.Texts.{text_limit, Readable, Refused, Checked, accepted, refusal, Checks}
@@ -29,7 +28,7 @@ use Rattle.judge.specs.Judging.{Judged, judged_refused, judged_both, Judging, is
 
 -- ---- what an answer of the check of the trace says
 two_apart : {a : Answer} {n f : ℕ} {b : Board} {p : ℕ} → refusal a n f ≡ accepted b p → ⊥
-two_apart e = zero_one (cc)
+two_apart e = cc
 
 same_refused : {text : List ℕ} {a a' : Answer} {n n' f f' : ℕ} → refusal a n f ≡ refusal a' n' f' → Refused text a n f → Refused text a' n' f'
 same_refused {text} {a} {a'} {n} {n'} {f} {f'} e w =
@@ -57,7 +56,7 @@ module _ {text : List ℕ} {r : Checked} (c : Checks text r) where
 
 -- ---- and of the level text
 bad_by : {ts : List Record} {text : List ℕ} {u : CheckedLevels} {a : LevelsAnswer} {n : ℕ} → LevelsChecked ts text u → u ≡ levels_bad a n → BadCapture ts text a n
-bad_by (usable a ls c) e = absurd (zero_one (cc))
+bad_by (usable a ls c) e = cc
 bad_by {ts} {text} {a = a'} {n = n'} (bad a n w) e =
     let one : ◌≡◌ {A = LevelsRefusal} (record { answer = a; line = n }) (record { answer = a'; line = n' }) = cc in
     subst (λ (x : LevelsRefusal). BadCapture ts text x.answer x.line) one w
@@ -69,7 +68,7 @@ usable_by {ts} {text} {l = l} {at = at} (usable a ls c) e =
     let same : a ≡ l = ap (λ (k : Level × Cursor). k.0) one in
     let place : length (spelled_level a) ≡ at = ap (λ (k : Level × Cursor). k.1.at) one in
     (ls, subst (λ (x : Level). Captures ts text (x ∷ ls)) same c, sym place ∙ ap (λ (x : Level). length (spelled_level x)) same)
-usable_by (bad a n w) e = absurd (zero_one (cc))
+usable_by (bad a n w) e = cc
 
 -- ---- each way
 module _ {levels trace : List ℕ} where

@@ -6,7 +6,6 @@ use lib.ListN.{length}
 use borrow.Author.Tests.{ltb-false}
 use Rattle.record.specs.declared.Board.{Board}
 use Rattle.record.specs.declared.Record.{Record}
-use Rattle.field.proofs.Answers.{zero_one}
 use Rattle.line.specs.Boards.{spelled_board}
 use Rattle.text.specs.Texts.{text_limit, Readable}
 use Rattle.level.specs.declared.Level.{Level}
@@ -26,7 +25,7 @@ pub refused_by : {levels trace : List ℕ} {j : Judged} → Judging levels trace
 refused_by {levels} {trace} (is_refused a k f h) a' k' f' e =
     let one : ◌≡◌ {A = Refused} (record { answer = a; line = k; field = f }) (record { answer = a'; line = k'; field = f' }) = cc in
     subst (λ (x : Refused). Judges levels trace (refused (judge_number x.answer) x.line x.field)) one h
-refused_by (is_both b rs a ls t q s c) a' k f e = absurd (zero_one (cc))
+refused_by (is_both b rs a ls t q s c) a' k f e = cc
 
 -- both texts can be used: the places from which they are read, and the records of the merged trace, no more than the most
 pub record Usable (levels trace : List ℕ) (b : Board) (first : ℕ) (a : Level) (at : ℕ) : Type 0 where
@@ -42,7 +41,7 @@ pub record Usable (levels trace : List ℕ) (b : Board) (first : ℕ) (a : Level
   pub small : length m ≤ most
 
 pub both_by : {levels trace : List ℕ} {j : Judged} → Judging levels trace j → (b : Board) (first : ℕ) (a : Level) (at : ℕ) → j ≡ judged_both b first a at → Usable levels trace b first a at
-both_by (is_refused a k f h) b first l at e = absurd (zero_one (cc))
+both_by (is_refused a k f h) b first l at e = cc
 both_by {levels} {trace} (is_both b rs a ls t q s c) b' first a' at e =
     let one : ◌≡◌ {A = Accepted} (record { board = b; first = length (spelled_board b); level = a; at = length (spelled_level a) }) (record { board = b'; first = first; level = a'; at = at }) = cc in
     let k = merged_some (a ∷ ls) rs in

@@ -8,7 +8,7 @@ use Rattle.field.specs.declared.Cursor.{Cursor}
 use Rattle.field.specs.Ends.{tab_byte, lf_byte, tab}
 use Rattle.field.specs.Decimal.{decimal}
 use Rattle.field.proofs.Reading.{Tells, Got, seq_end}
-use Rattle.field.proofs.Answers.{zero_one, at_same, No}
+use Rattle.field.proofs.Answers.{at_same, No}
 use Rattle.level.specs.declared.Spi.{Spi}
 use Rattle.level.specs.declared.Wires.{Wires}
 use Rattle.level.specs.declared.Level.{Level}
@@ -20,7 +20,7 @@ use Rattle.level.proofs.StampLaws.{Small, spelled_stamp, GotStamp}
 -- each reader's answer is an option of a value and the next place
 pub tells_some : {A : Type 0} → Tells {A = A} {R = Option (A × Cursor)} (λ x p. Some (x, record { at = p })) None
 tells_some {A} = record {
-  apart = λ x p e. zero_one (cc);
+  apart = λ x p e. cc;
   same = λ x y p q e.
       let pairs : ◌≡◌ {A = A × Cursor} (x, record { at = p }) (y, record { at = q }) = cc in
       (ap (λ (z : A × Cursor). z.0) pairs, at_same (ap (λ (z : A × Cursor). z.1) pairs));

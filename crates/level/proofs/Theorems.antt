@@ -1,12 +1,13 @@
 -- A level line has one spelling, and a place of a text one level line at most.
 use Prim.Native.Nat.{ℕ, ◌+◌, ◌/◌, ◌%◌, ◌≤◌, ◌<◌}
 use native.Mathlib.Omega.{arith}
-use mathlib.Core.Bool.{Bool, true, false}
+use mathlib.Core.Bool.{Bool}
 use mathlib.Core.Logic.{⊎_elim}
 use mathlib.Core.Path.{◌≡◌, refl, sym, ap, subst, ◌∙◌}
 use mathlib.Core.List.{List, [], ◌∷◌, ◌++◌}
 use lib.Dec.{eqb}
 use lib.ListN.{length, get_or, length-append}
+use Rattle.std.proofs.Common.{rules}
 use Rattle.std.specs.Prelude.{Option}
 use Rattle.law.specs.Choice.{lt_or_le}
 use Rattle.field.specs.declared.Cursor.{Cursor}
@@ -43,8 +44,7 @@ abbrev pins_at : List ℕ → Pins
 pins_at l = (record { cs = one l 0; sck = one l 2; si = one l 4; so = one l 6; hold = one l 8 }, record { scl = one l 10; sda = one l 12 })
 
 digit_is : (a : Bool) → eqb (level_digit a) 49 ≡ a
-digit_is true = refl
-digit_is false = refl
+digit_is a = search rules
 
 pins_law : (x : Pins) → Unit {0} → (rest : List ℕ) → pins_at ((spelled_spi x.0 ++ spelled_wires x.1) ++ rest) ≡ x
 unfolding spelled_spi spelled_wires

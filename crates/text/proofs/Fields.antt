@@ -1,14 +1,13 @@
 -- A refusal's field: it is one digit; with answer 3 it counts from 1, with another answer it is 0.
 use Prim.Native.Nat.{ℕ, ◌≤◌}
 use native.Mathlib.Omega.{arith}
-use mathlib.Core.Path.{◌≡◌, refl, ap}
+use mathlib.Core.Path.{◌≡◌, refl}
 use mathlib.Core.Logic.{◌⊎◌, inl, inr}
 use mathlib.Core.List.{List}
 use lib.ListN.{drop}
 use Rattle.record.specs.declared.Record.{Record}
 use Rattle.record.specs.declared.Answer.{Answer}
 use Rattle.record.specs.declared.Answer.TheVariants.{BadLine, BackInTime, Impossible}
-use Rattle.record.specs.Answers.{answer_number}
 use Rattle.line.proofs.Counted.{record_field, board_field}
 use Rattle.text.specs.Texts.{Wrong, Refused}
 use Rattle.text.specs.Texts.Wrong.{no_record, falls, cannot}
@@ -28,10 +27,10 @@ abbrev pub FieldOf : Answer → ℕ → Type 0
 FieldOf a k = ((a ≡ BadLine) × (1 ≤ k)) ⊎ ((a ≡ BadLine → ⊥) × (k ≡ 0))
 
 four_apart : BackInTime ≡ BadLine → ⊥
-four_apart e = let z : ◌≡◌ {A = ℕ} 4 3 = ap answer_number e in omega arith
+four_apart e = cc
 
 five_apart : Impossible ≡ BadLine → ⊥
-five_apart e = let z : ◌≡◌ {A = ℕ} 5 3 = ap answer_number e in omega arith
+five_apart e = cc
 
 wrong_field : {text : List ℕ} {at : ℕ} {rs : List Record} {a : Answer} {k : ℕ} → Wrong text at rs a k → FieldOf a k
 wrong_field {text} {at} (no_record h n) = inl (refl, (record_field (drop at text)).0)

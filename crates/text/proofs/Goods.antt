@@ -17,7 +17,7 @@ use Rattle.text.specs.Stamps.{last_stamp}
 use Rattle.text.specs.Texts.{spelled_all, Acceptable}
 
 pub never : {b : Buses} → None ≡ Some b → ⊥
-never e = let z : ◌≡◌ {A = ℕ} 0 1 = cc in omega arith
+never e = cc
 
 -- by neighbours: t is the stamp before the list
 abbrev pub StampsFrom : ℕ → List Record → Type 0
