@@ -10,6 +10,7 @@ use lib.Dec.{ltb, eqb}
 use lib.ListN.{get_or, length-set, length-replicate, get_or-replicate}
 use lib.Seq.{get_or-set_other, ext_get_or}
 use borrow.Author.Tests.{ltb-true, ltb-false, le-ltb, eqb-false}
+use Rattle.std.proofs.Common.{rules}
 use Rattle.std.specs.Prelude.{Option, Some, None}
 use Rattle.law.specs.Choice.{split, of_both, true_not_false}
 use Rattle.law.specs.Words.{pick}
@@ -32,7 +33,7 @@ use Rattle.eeprom.specs.declared.EepromFrame.{EepromFrame}
 use Rattle.eeprom.specs.declared.EepromFrame.TheVariants.{Idle, Void, Opened, Addressed, Half, Taking, Reading}
 use Rattle.eeprom.specs.declared.Eeprom.{Eeprom}
 use Rattle.eeprom.specs.declared.EepromStep.{EepromStep}
-use Rattle.page.specs.Laws.{rolled_small, sent_all_lem}
+use Rattle.page.specs.Laws.{sent_all_lem}
 use Rattle.eeprom.proofs.Rolling.{next_low, next_small, counted_less, counted_small, first_less, first_all, first_small}
 
 abbrev StepGood : EepromStep → Type 0
@@ -88,24 +89,20 @@ in_frame_good (Some s) f g n p h k =
     }
 
 void_in : (c : Option Sent) (n : Option ℕ) → FrameIn c Void n
-void_in None n = tt
-void_in (Some s) n = tt
+void_in c n = search rules
 
 idle_in : (c : Option Sent) (n : Option ℕ) → FrameIn c Idle n
-idle_in None n = tt
-idle_in (Some s) n = tt
+idle_in c n = search rules
 
 opened_in : (c : Option Sent) (n : Option ℕ) → FrameIn c (Opened (running_of c)) n
-opened_in None n = tt
-opened_in (Some s) n = tt
+opened_in c n = search rules
 
 unless : (t : Bool) (a b : EepromStep) → StepGood a → (t ≡ false → StepGood b) → StepGood (pick t a b)
 unless true a b p q = p
 unless false a b p q = q refl
 
 by_address : (t : Bool) (n : Option ℕ) → FrameGood (pick t Reading Addressed) n
-by_address true n = tt
-by_address false n = tt
+by_address t n = search rules
 
 -- ---- one data byte more
 -- after 64 bytes no place is left
@@ -153,12 +150,10 @@ module _ (k p b : ℕ) (page : List ℕ) (small : k ≤ 64) (inside : p < eeprom
       }
 
 read_frame : (bit : Bool) (n : Option ℕ) → FrameGood (after_read bit) n
-read_frame true n = tt
-read_frame false n = tt
+read_frame bit n = search rules
 
 moved_good : (n : Option ℕ) → CounterGood n → CounterGood (moved_on n)
-moved_good None h = tt
-moved_good (Some p) h = let l = rolled_small (eeprom_size - 1) p in omega arith
+moved_good n h = search rules
 
 address_small : (h b : ℕ) → address_of h b < eeprom_size
 address_small h b = omega arith
@@ -233,13 +228,7 @@ stop_good Reading c n p lock h = in_frame_good c Idle Reading n p h (idle_in c n
 
 -- ---- `end` and the supply
 waits_good : (f : EepromFrame) (n : Option ℕ) → Waits f → FrameGood f n
-waits_good Idle n h = tt
-waits_good Void n h = tt
-waits_good (Opened b) n h = tt
-waits_good Addressed n h = absurd h
-waits_good (Half high) n h = absurd h
-waits_good (Taking k) n h = absurd h
-waits_good Reading n h = tt
+waits_good f n h = search rules
 
 end_good : (c : Option Sent) (f : EepromFrame) (n : Option ℕ) (p : List ℕ) → Fields f c n p → StepGood (end_of (chip f c n p))
 end_good None f n p h = h
@@ -264,22 +253,10 @@ pub step_good : (x : Eeprom) (e : EepromEvent) (l : Lines) (w : ℕ) → ChipGoo
 step_good x e l w h = of_both StepGood l.supply (powered_of x e l.lock w) (unpowered_of x e) (powered_good x e l.lock w h) (unpowered_good x e h)
 
 voided_shut : (f : EepromFrame) → Shut (voided_by f)
-voided_shut Idle = tt
-voided_shut Void = tt
-voided_shut (Opened b) = tt
-voided_shut Addressed = tt
-voided_shut (Half high) = tt
-voided_shut (Taking k) = tt
-voided_shut Reading = tt
+voided_shut f = search rules
 
 shut_good : (f : EepromFrame) → Shut f → FrameGood f None
-shut_good Idle h = tt
-shut_good Void h = tt
-shut_good (Opened b) h = tt
-shut_good Addressed h = tt
-shut_good (Half high) h = absurd h
-shut_good (Taking k) h = absurd h
-shut_good Reading h = tt
+shut_good f h = search rules
 
 pub off_good : (x : Eeprom) → ChipGood (off_of x)
 off_good x = blank_good (voided_by x.frame) None (shut_good (voided_by x.frame) (voided_shut x.frame)) tt
@@ -288,11 +265,7 @@ pub off_dark : (x : Eeprom) → Dark (off_of x)
 off_dark x = record { shut = voided_shut x.frame; none = refl; lost = refl }
 
 unpowered_dark : (x : Eeprom) (e : EepromEvent) → Dark x → Dark (unpowered_of x e).chip
-unpowered_dark x Start h = record { shut = tt; none = h.none; lost = h.lost }
-unpowered_dark x (Byte b bit) h = h
-unpowered_dark x Cut h = record { shut = tt; none = h.none; lost = h.lost }
-unpowered_dark x Stop h = record { shut = tt; none = h.none; lost = h.lost }
-unpowered_dark x End h = h
+unpowered_dark x e h = search rules
 
 step_dark : (x : Eeprom) (e : EepromEvent) (supply lock : Bool) (w : ℕ) → supply ≡ false → (supply ≡ false → Dark x)
     → Dark (pick supply (powered_of x e lock w) (unpowered_of x e)).chip
@@ -311,8 +284,7 @@ good_bus w s e h =
     }
 
 line_dark : (x : Eeprom) (t : Bool) → (t ≡ false → Dark x) → Dark (pick t (off_of x) x)
-line_dark x true h = off_dark x
-line_dark x false h = h refl
+line_dark x t h = search (off_dark, rules)
 
 pub good_line : (s : Side) (e : LineEvent) → Good s → Good (side_line s e)
 good_line s SupplyOn h = record { chip_good = h.chip_good; dark = λ q. absurd (true_not_false q) }

@@ -10,6 +10,7 @@ use lib.Dec.{ltb}
 use lib.ListN.{length, get_or}
 use lib.Seq.{ext_get_or}
 use borrow.Author.Tests.{ltb-true, ltb-false, lt-ltb}
+use Rattle.std.proofs.Common.{rules}
 use Rattle.std.specs.Prelude.{Option, Some, None}
 use Rattle.law.specs.Choice.{split, true_not_false}
 use Rattle.eeprom.specs.Chip.{running_of, place_of}
@@ -143,13 +144,7 @@ with_count k (Taking m) = Taking k
 with_count k Reading = Reading
 
 frame_back : (f : EepromFrame) → with_count (count_of f) (kind_of f) ≡ f
-frame_back Idle = refl
-frame_back Void = refl
-frame_back (Opened b) = refl
-frame_back Addressed = refl
-frame_back (Half h) = refl
-frame_back (Taking k) = refl
-frame_back Reading = refl
+frame_back f = search rules
 
 abbrev pub page_number : Option Sent → ℕ
 page_number None = 0
@@ -168,22 +163,10 @@ pub record Alike (x y : Eeprom) : Type 0 where
   pub bytes : (q : ℕ) → q < 64 → sent_place 64 (sent_of x).first (sent_of x).count q ≡ true → get_or x.page q 0 ≡ get_or y.page q 0
 
 count_small : (f : EepromFrame) (n : Option ℕ) → FrameGood f n → count_of f ≤ 64
-count_small Idle n h = omega arith
-count_small Void n h = omega arith
-count_small (Opened b) n h = omega arith
-count_small Addressed n h = omega arith
-count_small (Half high) n h = omega arith
-count_small (Taking k) n h = h.0
-count_small Reading n h = omega arith
+count_small f n h = search rules
 
 count_none : (f : EepromFrame) → Waits f → count_of f ≡ 0
-count_none Idle h = refl
-count_none Void h = refl
-count_none (Opened b) h = refl
-count_none Addressed h = absurd h
-count_none (Half high) h = absurd h
-count_none (Taking k) h = absurd h
-count_none Reading h = refl
+count_none f h = search rules
 
 -- the cycles are the same, and so are the counts of the frames
 parts_same : (c d : Option Sent) (f g : EepromFrame) (n : Option ℕ) → FrameIn c f n → FrameIn d g n → CycleIn c n → CycleIn d n

@@ -3,9 +3,10 @@
 use Prim.Native.Nat.{ℕ, ◌%◌}
 use mathlib.Core.Bool.{Bool, true, false}
 use mathlib.Core.Path.{◌≡◌, refl, sym, subst}
-use mathlib.Core.Logic.{◌⊎◌, inl, inr}
+use mathlib.Core.Logic.{◌⊎◌}
 use mathlib.Core.List.{List}
 use lib.Dec.{eqb}
+use Rattle.std.proofs.Common.{rules}
 use Rattle.std.specs.Prelude.{Option, Some, None}
 use Rattle.law.specs.Choice.{of_both}
 use Rattle.law.specs.Words.{pick}
@@ -46,8 +47,7 @@ abbrev chip : EepromFrame → Option Sent → Option ℕ → List ℕ → Eeprom
 chip f c n p = record { frame = f; cycle = c; counter = n; page = p }
 
 kept : (c : Option Sent) (p : List ℕ) → runs_in c (page_in c p) ≡ runs_in c p
-kept None p = refl
-kept (Some s) p = refl
+kept c p = search rules
 
 is_idle : Cycle Writing → Type 0
 is_idle idle = Unit {0}
@@ -71,12 +71,10 @@ module _ (x : Eeprom) (t : Told) (e : EepromEvent) (s : EepromStep) where
 
 -- ---- a byte
 by_address : (t : Bool) (p : List ℕ) (n : Option ℕ) → FrameTold (pick t Reading Addressed) p (record { frame = pick t Reading Addressed; counter = n; page = blank })
-by_address true p n = refl
-by_address false p n = refl
+by_address t p n = search rules
 
 read_told : (bit : Bool) (p q : List ℕ) (n : Option ℕ) → FrameTold (after_read bit) p (record { frame = Reading; counter = n; page = q })
-read_told true p q n = tt
-read_told false p q n = refl
+read_told bit p q n = search rules
 
 module _ (b : ℕ) (bit : Bool) (w : ℕ) where
   void_keeps : (x : Eeprom) (t : Told) → CounterTold x.counter t.counter → Keeps x t (Byte b bit) (silent_in x Void)
@@ -159,13 +157,7 @@ stop_keeps Reading c n p t lock h q k = idle_keeps (chip Reading c n p) t k
 
 -- ---- `end`: a frame that waits in a cycle is told without the page
 waits_told : (f : EepromFrame) (p q : List ℕ) (t : Told) → Waits f → FrameTold f p t → FrameTold f q t
-waits_told Idle p q t h k = tt
-waits_told Void p q t h k = tt
-waits_told (Opened barred) p q t h k = k
-waits_told Addressed p q t h k = k
-waits_told (Half high) p q t h k = k
-waits_told (Taking m) p q t h k = absurd h
-waits_told Reading p q t h k = k
+waits_told f p q t h k = search rules
 
 end_keeps : (c : Option Sent) (f : EepromFrame) (n : Option ℕ) (p : List ℕ) (t : Told) → FrameIn c f n → FrameTold f p t → CounterTold n t.counter
     → Keeps (chip f c n p) t End (end_of (chip f c n p))
@@ -190,13 +182,7 @@ powered_keeps x t End lock w h k = end_keeps x.cycle x.frame x.counter x.page t 
 
 -- ---- with the supply off: no frame is open, and the counter is lost
 shut_told : (f : EepromFrame) (p : List ℕ) (t : Told) → Shut f → FrameTold f p t
-shut_told Idle p t h = tt
-shut_told Void p t h = tt
-shut_told (Opened barred) p t h = absurd h
-shut_told Addressed p t h = absurd h
-shut_told (Half high) p t h = absurd h
-shut_told (Taking m) p t h = absurd h
-shut_told Reading p t h = absurd h
+shut_told f p t h = search rules
 
 dark_tracks : (x : Eeprom) (t : Told) → Dark x → Tracks x t
 dark_tracks x t h =
@@ -230,17 +216,10 @@ barless Reading = Reading
 
 frame_some : (f : EepromFrame) (n : Option ℕ) (p : List ℕ) → FrameTold f p (record { frame = barless f; counter = n; page = p })
 unfolding barless
-frame_some Idle n p = tt
-frame_some Void n p = tt
-frame_some (Opened barred) n p = refl
-frame_some Addressed n p = refl
-frame_some (Half high) n p = refl
-frame_some (Taking m) n p = (refl, refl)
-frame_some Reading n p = refl
+frame_some f n p = search rules
 
 counter_some : (n : Option ℕ) → CounterTold n n
-counter_some None = tt
-counter_some (Some a) = refl
+counter_some n = search rules
 
 some_told : (x : Eeprom) → (t : Told) × Tracks x t
 some_told x = (
@@ -263,8 +242,7 @@ module _ (w : ℕ) where
 
   -- ---- a line record
   off_or_not : (t : Bool) (x : Eeprom) → (runs_of (pick t (off_of x) x) ≡ runs_of x) ⊎ (runs_of (pick t (off_of x) x) ≡ idle)
-  off_or_not true x = inr refl
-  off_or_not false x = inl refl
+  off_or_not t x = search rules
 
   -- ---- THE LAWS
   pub eeprom_lawful : Lawful (eeprom_control w)

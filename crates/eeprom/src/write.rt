@@ -37,17 +37,14 @@ pub(crate) fn one_more(count: u32) -> u32
 pub(crate) fn sent_by(next: u32, count: u32) -> Sent
     ensures { result ≡ sent_by next count }
 {
-    if count < page::EEPROM_PAGE {
-        Sent {
-            page: next / page::EEPROM_PAGE,
-            first: (next % page::EEPROM_PAGE + (page::EEPROM_PAGE - count)) % page::EEPROM_PAGE,
-            count: count,
-        }
+    let first = if count < page::EEPROM_PAGE {
+        (next % page::EEPROM_PAGE + (page::EEPROM_PAGE - count)) % page::EEPROM_PAGE
     } else {
-        Sent {
-            page: next / page::EEPROM_PAGE,
-            first: 0,
-            count: count,
-        }
+        0
+    };
+    Sent {
+        page: next / page::EEPROM_PAGE,
+        first,
+        count,
     }
 }
