@@ -10,7 +10,7 @@ use lib.Seq.{take-suc-set}
 use borrow.Author.Tests.{not-true}
 use Rattle.law.specs.Choice.{true_not_false}
 use Rattle.law.specs.Deciding.{Decides, decides_as}
-use Rattle.std.proofs.Common.{drop_of_length-le, drop-cons, length-take-le}
+use Rattle.std.proofs.Common.{rules, drop_of_length-le, drop-cons, length-take-le}
 use Rattle.law.specs.Words.{All, pick}
 use Rattle.record.specs.declared.Board.{Board}
 use Rattle.record.specs.declared.Record.{Record}
@@ -31,18 +31,14 @@ use Rattle.orders.specs.LineStates.{of_line, OfBus, repeats_of, lines_next, tell
 -- ---- one record: where it leaves the lines, and where it does nothing
 module _ (b : Board) where
   lines_by : (s : Controls) (e : Event) → (event_moved b s e).controls.lines ≡ lines_next s.lines e
-  lines_by s (event.Flash e) = refl
-  lines_by s (event.Eeprom e) = refl
-  lines_by s (event.Line e) = refl
+  lines_by s e = search rules
 
   lines_played : (s : Controls) (r : Record) → (played b s r).lines ≡ lines_next s.lines r.event
   unfolding moved_of
   lines_played s r = lines_by s r.event
 
   bus_by : (l : Lines) (e : Event) → of_line e ≡ false → lines_next l e ≡ l
-  bus_by l (event.Flash e) o = refl
-  bus_by l (event.Eeprom e) o = refl
-  bus_by l (event.Line e) o = absurd (true_not_false o)
+  bus_by l e o = search rules
 
   bus_keeps : (s : Controls) (r : Record) → OfBus r → (played b s r).lines ≡ s.lines
   bus_keeps s r o = lines_played s r ∙ bus_by s.lines r.event o

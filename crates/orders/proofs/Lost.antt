@@ -2,6 +2,7 @@
 use mathlib.Core.Path.{◌≡◌, refl, ◌∙◌}
 use mathlib.Core.Bool.{false, not}
 use mathlib.Core.List.{List, [], ◌∷◌}
+use Rattle.std.proofs.Common.{rules}
 use Rattle.law.specs.Choice.{of_both, true_not_false}
 use Rattle.law.specs.Words.{All}
 use Rattle.record.specs.declared.Board.{Board}
@@ -35,9 +36,7 @@ module _ (b : Board) where
   keeps s r n = keeps_by s r.event n
 
   bus_not_off : (e : Event) → of_line e ≡ false → is_off e ≡ false
-  bus_not_off (event.Flash e) o = refl
-  bus_not_off (event.Eeprom e) o = refl
-  bus_not_off (event.Line e) o = absurd (true_not_false o)
+  bus_not_off e o = search rules
 
   -- ---- all records
   buses_keep : (rs : List Record) → All OfBus rs → (s : Controls) → lost_of (after_buses (played b) rs s) ≡ lost_of s

@@ -9,6 +9,7 @@ use lib.Dec.{ltb}
 use lib.ListN.{length, set, length-set, length-append}
 use lib.Seq.{take_all, take-suc-set, take-append-le}
 use borrow.Author.Tests.{ltb-true, ltb-false}
+use Rattle.std.proofs.Common.{rules}
 use Rattle.law.specs.Choice.{split}
 use Rattle.law.specs.Words.{pick, keep, filter}
 use Rattle.law.specs.Lists.{filter_append}
@@ -71,14 +72,10 @@ module _ (most count : ℕ) (array xs : List Record) (r : Record) (h : HoldsMost
 
 -- ---- each channel of the records
 count_by : (c d : Channel) (h : Held) (r : Record) → count_with c d h ≡ count_of (held_by d h r) c
-count_by F d h r = refl
-count_by E d h r = refl
-count_by L d h r = refl
+count_by c d h r = search rules
 
 array_by : (c d : Channel) (h : Held) (r : Record) → array_with c d h r ≡ array_of (held_by d h r) c
-array_by F d h r = refl
-array_by E d h r = refl
-array_by L d h r = refl
+array_by c d h r = search rules
 
 module _ (b : Board) (p : List Record) (r : Record) (g : Gathered) (k : Keeps b g p) where
   -- what is held of the channel c, whether the record is of this channel or not
@@ -118,9 +115,7 @@ module _ (place : ℕ) where
   none_held b L = record { counts = refl; holds = refl }
 
   none_long : (c : Channel) → length (array_of (nothing_gathered place).held c) ≡ most c
-  none_long F = refl
-  none_long E = refl
-  none_long L = refl
+  none_long c = search rules
 
   pub keeps_none : (b : Board) → Keeps b (nothing_gathered place) []
   keeps_none b = record {
