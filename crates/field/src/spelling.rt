@@ -46,6 +46,7 @@ impl Spelling {
     }
 
     // The part of the word that fits is copied in place: the spelling is copied for no byte.
+    #[tactic(auto, using(crate::proofs::SpellingLaws::put_part))]
     pub fn word(mut self, word: &[u8]) -> Self
         ensures { result ≡ put_all self word.now }
     {
@@ -66,6 +67,7 @@ impl Spelling {
         self
     }
 
+    #[tactic(auto, using(crate::proofs::SpellingLaws::put_last, crate::proofs::SpellingLaws::put_digits))]
     pub fn decimal(self, value: u32) -> Self
         ensures { result ≡ put_all self (decimal value) }
     {
@@ -76,6 +78,7 @@ impl Spelling {
         self.decimal(value / 10).byte(last)
     }
 
+    #[tactic(auto, using(crate::proofs::SpellingLaws::put_hex))]
     pub fn hex(self, x: u8) -> Self
         ensures { result ≡ put_all self (hex_field x) }
     {

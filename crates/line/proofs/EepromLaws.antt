@@ -1,9 +1,10 @@
 -- The events of channel E.
+use Rattle.std.proofs.Common.{rules}
 use Prim.Native.Nat.{ℕ, ◌<◌}
 use native.Mathlib.Omega.{arith}
 use mathlib.Core.Bool.{Bool, true, false}
 use mathlib.Core.Path.{◌≡◌, refl, sym, ap, ◌∙◌}
-use mathlib.Core.Logic.{◌⊎◌, inl, inr, ⊎_elim}
+use mathlib.Core.Logic.{◌⊎◌, ⊎_elim}
 use mathlib.Core.List.{List, [], ◌∷◌, ◌++◌}
 use lib.Dec.{eqb}
 use lib.ListN.{get_or}
@@ -89,12 +90,7 @@ eeprom_at l =
 
 pub eeprom_law : (x : EepromEvent) → EepromOk x → (rest : List ℕ) → eeprom_at (spelled_eeprom x ++ rest) ≡ x
 unfolding eeprom_at spelled_eeprom hex_field
-eeprom_law Start o rest = refl
-eeprom_law (Byte b true) o rest = ap (λ (k : ℕ). Byte k true) (unhex_is b o)
-eeprom_law (Byte b false) o rest = ap (λ (k : ℕ). Byte k false) (unhex_is b o)
-eeprom_law Cut o rest = refl
-eeprom_law Stop o rest = refl
-eeprom_law End o rest = refl
+eeprom_law x o rest = search (unhex_is, rules)
 
 -- an event's word, and what comes after it
 abbrev eeprom_word : EepromEvent → List ℕ
@@ -113,42 +109,22 @@ eeprom_rest End = lf
 
 eeprom_parts : (y : EepromEvent) → spelled_eeprom y ≡ eeprom_word y ++ eeprom_rest y
 unfolding spelled_eeprom spelled_data spelled_bit
-eeprom_parts Start = refl
-eeprom_parts (Byte b a) = refl
-eeprom_parts Cut = refl
-eeprom_parts Stop = refl
-eeprom_parts End = refl
+eeprom_parts y = search rules
 
 eeprom_plain : (y : EepromEvent) → Plain (eeprom_word y)
-eeprom_plain Start = plain_of word_sta refl
-eeprom_plain (Byte b a) = plain_of word_b refl
-eeprom_plain Cut = plain_of word_cut refl
-eeprom_plain Stop = plain_of word_sto refl
-eeprom_plain End = plain_of word_end refl
+eeprom_plain y = search (rules, plain_of)
 
 eeprom_ends : (y : EepromEvent) (l : List ℕ) → ends_here (eeprom_rest y ++ l) ≡ true
-eeprom_ends Start l = refl
-eeprom_ends (Byte b a) l = refl
-eeprom_ends Cut l = refl
-eeprom_ends Stop l = refl
-eeprom_ends End l = refl
+eeprom_ends y l = search rules
 
 eeprom_allowed : (y : EepromEvent) → is_eeprom_event (eeprom_word y) ≡ true
 unfolding is_eeprom_event one_of same
-eeprom_allowed Start = refl
-eeprom_allowed (Byte b a) = refl
-eeprom_allowed Cut = refl
-eeprom_allowed Stop = refl
-eeprom_allowed End = refl
+eeprom_allowed y = search rules
 
 -- an event's word tells which it is, but for the byte and the bit of `b`
 eeprom_by : (y : EepromEvent) → (y ≡ eeprom_at (eeprom_word y)) ⊎ (eeprom_word y ≡ word_b)
 unfolding eeprom_at
-eeprom_by Start = inl refl
-eeprom_by (Byte b a) = inr refl
-eeprom_by Cut = inl refl
-eeprom_by Stop = inl refl
-eeprom_by End = inl refl
+eeprom_by y = search rules
 
 eeprom_one : (w : List ℕ) → (w ≡ word_b → ⊥) → (y : EepromEvent) → EepromOk y × (w ≡ eeprom_word y) → y ≡ eeprom_at w
 eeprom_one w n y o = ⊎_elim (λ e. e ∙ ap eeprom_at (sym o.1)) (λ e. absurd (n (o.1 ∙ e))) (eeprom_by y)
@@ -165,11 +141,7 @@ eeprom_tail Stop = []
 eeprom_tail End = []
 
 b_rest : (y : EepromEvent) → EepromOk y × (word_b ≡ eeprom_word y) → eeprom_rest y ≡ tab_byte ∷ eeprom_tail y
-b_rest Start o = absurd (not_b 115 (116 ∷ 97 ∷ []) (λ e. omega arith) (sym o.1))
-b_rest (Byte b a) o = refl
-b_rest Cut o = absurd (not_b 99 (117 ∷ 116 ∷ []) (λ e. omega arith) (sym o.1))
-b_rest Stop o = absurd (not_b 115 (116 ∷ 111 ∷ []) (λ e. omega arith) (sym o.1))
-b_rest End o = absurd (not_b 101 (110 ∷ 100 ∷ []) (λ e. omega arith) (sym o.1))
+b_rest y o = search rules
 
 b_fields : (y : EepromEvent) → EepromOk y × (word_b ≡ eeprom_word y) → (x : ℕ × Bool) × DataOk x × (y ≡ Byte x.0 x.1)
 b_fields Start o = absurd (not_b 115 (116 ∷ 97 ∷ []) (λ e. omega arith) (sym o.1))
@@ -181,11 +153,7 @@ b_fields End o = absurd (not_b 101 (110 ∷ 100 ∷ []) (λ e. omega arith) (sym
 -- no longer word is allowed
 eeprom_longer : (y : EepromEvent) (b : ℕ) (u : List ℕ) → is_eeprom_event (eeprom_word y ++ (b ∷ u)) ≡ false
 unfolding is_eeprom_event one_of same
-eeprom_longer Start b u = refl
-eeprom_longer (Byte x a) b u = refl
-eeprom_longer Cut b u = refl
-eeprom_longer Stop b u = refl
-eeprom_longer End b u = refl
+eeprom_longer y b u = search rules
 
 module _ {text : List ℕ} {at : ℕ} where
   pub eeprom_none : NoWord word_sta text at → NoWord word_cut text at → NoWord word_sto text at → NoWord word_end text at → NoWord word_b text at → ReadsEeprom text at (bad_field 3)

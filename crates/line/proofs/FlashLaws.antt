@@ -1,8 +1,9 @@
 -- The events of channel F.
+use Rattle.std.proofs.Common.{rules}
 use Prim.Native.Nat.{ℕ, ◌<◌}
 use native.Mathlib.Omega.{arith}
-use mathlib.Core.Path.{◌≡◌, refl, sym, ap, ap₂, ◌∙◌}
-use mathlib.Core.Logic.{◌⊎◌, inl, inr, ⊎_elim}
+use mathlib.Core.Path.{◌≡◌, refl, sym, ap, ◌∙◌}
+use mathlib.Core.Logic.{◌⊎◌, ⊎_elim}
 use mathlib.Core.Bool.{true, false}
 use mathlib.Core.List.{List, [], ◌∷◌, ◌++◌}
 use lib.Dec.{eqb}
@@ -66,11 +67,7 @@ flash_at l =
 
 pub flash_law : (x : FlashEvent) → FlashOk x → (rest : List ℕ) → flash_at (spelled_flash x ++ rest) ≡ x
 unfolding flash_at spelled_flash hex_field
-flash_law Select o rest = refl
-flash_law (Byte si so) o rest = ap₂ Byte (unhex_is si o.0) (unhex_is so o.1)
-flash_law Cut o rest = refl
-flash_law Deselect o rest = refl
-flash_law End o rest = refl
+flash_law x o rest = search (unhex_is, rules)
 
 -- an event's word, and what comes after it
 abbrev flash_word : FlashEvent → List ℕ
@@ -89,42 +86,22 @@ flash_rest End = lf
 
 flash_parts : (y : FlashEvent) → spelled_flash y ≡ flash_word y ++ flash_rest y
 unfolding spelled_flash spelled_pair
-flash_parts Select = refl
-flash_parts (Byte si so) = refl
-flash_parts Cut = refl
-flash_parts Deselect = refl
-flash_parts End = refl
+flash_parts y = search rules
 
 flash_plain : (y : FlashEvent) → Plain (flash_word y)
-flash_plain Select = plain_of word_sel refl
-flash_plain (Byte si so) = plain_of word_x refl
-flash_plain Cut = plain_of word_cut refl
-flash_plain Deselect = plain_of word_des refl
-flash_plain End = plain_of word_end refl
+flash_plain y = search (rules, plain_of)
 
 flash_ends_lem : (y : FlashEvent) (l : List ℕ) → ends_here (flash_rest y ++ l) ≡ true
-flash_ends_lem Select l = refl
-flash_ends_lem (Byte si so) l = refl
-flash_ends_lem Cut l = refl
-flash_ends_lem Deselect l = refl
-flash_ends_lem End l = refl
+flash_ends_lem y l = search rules
 
 flash_allowed : (y : FlashEvent) → is_flash_event (flash_word y) ≡ true
 unfolding is_flash_event one_of same
-flash_allowed Select = refl
-flash_allowed (Byte si so) = refl
-flash_allowed Cut = refl
-flash_allowed Deselect = refl
-flash_allowed End = refl
+flash_allowed y = search rules
 
 -- an event's word tells which it is, but for the bytes of `x`
 flash_by : (y : FlashEvent) → (y ≡ flash_at (flash_word y)) ⊎ (flash_word y ≡ word_x)
 unfolding flash_at
-flash_by Select = inl refl
-flash_by (Byte si so) = inr refl
-flash_by Cut = inl refl
-flash_by Deselect = inl refl
-flash_by End = inl refl
+flash_by y = search rules
 
 flash_one : (w : List ℕ) → (w ≡ word_x → ⊥) → (y : FlashEvent) → FlashOk y × (w ≡ flash_word y) → y ≡ flash_at w
 flash_one w n y o = ⊎_elim (λ e. e ∙ ap flash_at (sym o.1)) (λ e. absurd (n (o.1 ∙ e))) (flash_by y)
@@ -141,11 +118,7 @@ flash_tail Deselect = []
 flash_tail End = []
 
 x_rest : (y : FlashEvent) → FlashOk y × (word_x ≡ flash_word y) → flash_rest y ≡ tab_byte ∷ flash_tail y
-x_rest Select o = absurd (not_x 115 (101 ∷ 108 ∷ []) (λ e. omega arith) (sym o.1))
-x_rest (Byte si so) o = refl
-x_rest Cut o = absurd (not_x 99 (117 ∷ 116 ∷ []) (λ e. omega arith) (sym o.1))
-x_rest Deselect o = absurd (not_x 100 (101 ∷ 115 ∷ []) (λ e. omega arith) (sym o.1))
-x_rest End o = absurd (not_x 101 (110 ∷ 100 ∷ []) (λ e. omega arith) (sym o.1))
+x_rest y o = search rules
 
 x_bytes : (y : FlashEvent) → FlashOk y × (word_x ≡ flash_word y) → (x : ℕ × ℕ) × PairOk x × (y ≡ Byte x.0 x.1)
 x_bytes Select o = absurd (not_x 115 (101 ∷ 108 ∷ []) (λ e. omega arith) (sym o.1))
@@ -157,11 +130,7 @@ x_bytes End o = absurd (not_x 101 (110 ∷ 100 ∷ []) (λ e. omega arith) (sym 
 -- no longer word is allowed
 flash_longer : (y : FlashEvent) (b : ℕ) (u : List ℕ) → is_flash_event (flash_word y ++ (b ∷ u)) ≡ false
 unfolding is_flash_event one_of same
-flash_longer Select b u = refl
-flash_longer (Byte si so) b u = refl
-flash_longer Cut b u = refl
-flash_longer Deselect b u = refl
-flash_longer End b u = refl
+flash_longer y b u = search rules
 
 module _ {text : List ℕ} {at : ℕ} where
   pub flash_none : NoWord word_sel text at → NoWord word_cut text at → NoWord word_des text at → NoWord word_end text at → NoWord word_x text at → ReadsFlash text at (bad_field 3)

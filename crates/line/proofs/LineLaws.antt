@@ -1,4 +1,5 @@
 -- The events of channel L.
+use Rattle.std.proofs.Common.{rules}
 use Prim.Native.Nat.{ℕ}
 use mathlib.Core.Path.{◌≡◌, refl, sym, ap, ◌∙◌}
 use mathlib.Core.Bool.{true, false}
@@ -27,10 +28,7 @@ line_at l = pick (eqb (get_or l 0 0) 111) (pick (eqb (get_or l 1 0) 110) SupplyO
 
 pub line_law : (x : LineEvent) → Unit {0} → (rest : List ℕ) → line_at (spelled_line x ++ rest) ≡ x
 unfolding line_at spelled_line
-line_law SupplyOn o rest = refl
-line_law SupplyOff o rest = refl
-line_law LockOn o rest = refl
-line_law LockOff o rest = refl
+line_law x o rest = search rules
 
 -- an event's word; nothing but the LF comes after it
 abbrev line_word : LineEvent → List ℕ
@@ -41,38 +39,23 @@ line_word LockOff = word_free
 
 line_parts : (y : LineEvent) → spelled_line y ≡ line_word y ++ lf
 unfolding spelled_line
-line_parts SupplyOn = refl
-line_parts SupplyOff = refl
-line_parts LockOn = refl
-line_parts LockOff = refl
+line_parts y = search rules
 
 line_plain : (y : LineEvent) → Plain (line_word y)
-line_plain SupplyOn = plain_of word_on refl
-line_plain SupplyOff = plain_of word_off refl
-line_plain LockOn = plain_of word_lock refl
-line_plain LockOff = plain_of word_free refl
+line_plain y = search (rules, plain_of)
 
 line_allowed : (y : LineEvent) → is_line_event (line_word y) ≡ true
 unfolding is_line_event one_of same
-line_allowed SupplyOn = refl
-line_allowed SupplyOff = refl
-line_allowed LockOn = refl
-line_allowed LockOff = refl
+line_allowed y = search rules
 
 line_by_lem : (y : LineEvent) → y ≡ line_at (line_word y)
 unfolding line_at
-line_by_lem SupplyOn = refl
-line_by_lem SupplyOff = refl
-line_by_lem LockOn = refl
-line_by_lem LockOff = refl
+line_by_lem y = search rules
 
 -- no longer word is allowed
 line_longer : (y : LineEvent) (b : ℕ) (u : List ℕ) → is_line_event (line_word y ++ (b ∷ u)) ≡ false
 unfolding is_line_event one_of same
-line_longer SupplyOn b u = refl
-line_longer SupplyOff b u = refl
-line_longer LockOn b u = refl
-line_longer LockOff b u = refl
+line_longer y b u = search rules
 
 module _ {text : List ℕ} {at : ℕ} where
   pub line_none : NoWord word_on text at → NoWord word_off text at → NoWord word_lock text at → NoWord word_free text at → ReadsLine text at (bad_field 3)

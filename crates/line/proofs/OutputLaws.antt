@@ -1,8 +1,8 @@
 -- A line that was put together is copied out; how long lines are.
+use Rattle.std.proofs.Common.{rules}
 use Prim.Native.Nat.{ℕ, ◌+◌, ◌≤◌, ◌<◌}
 use native.Mathlib.Omega.{arith}
 use mathlib.Core.Path.{◌≡◌, refl, ap, subst, ◌∙◌}
-use mathlib.Core.Bool.{true, false}
 use mathlib.Core.List.{List, ◌++◌}
 use lib.ListN.{length, drop, length-append}
 use borrow.Author.Tests.{lt-ltb, le-ltb}
@@ -49,33 +49,19 @@ wrote_board o w = record { out_of_range = λ n. absurd (n o); in_range = λ p. w
 -- ---- how long lines are
 flash_length_lem : (e : FlashEvent) → (4 ≤ length (spelled_flash e)) × (length (spelled_flash e) ≤ 8)
 unfolding spelled_flash hex_field
-flash_length_lem FlashEvent.Select = omega arith
-flash_length_lem (FlashEvent.Byte si so) = omega arith
-flash_length_lem FlashEvent.Cut = omega arith
-flash_length_lem FlashEvent.Deselect = omega arith
-flash_length_lem FlashEvent.End = omega arith
+flash_length_lem e = search rules
 
 eeprom_length_lem : (e : EepromEvent) → (4 ≤ length (spelled_eeprom e)) × (length (spelled_eeprom e) ≤ 7)
 unfolding spelled_eeprom hex_field
-eeprom_length_lem EepromEvent.Start = omega arith
-eeprom_length_lem (EepromEvent.Byte b true) = omega arith
-eeprom_length_lem (EepromEvent.Byte b false) = omega arith
-eeprom_length_lem EepromEvent.Cut = omega arith
-eeprom_length_lem EepromEvent.Stop = omega arith
-eeprom_length_lem EepromEvent.End = omega arith
+eeprom_length_lem e = search rules
 
 line_length_lem : (e : LineEvent) → (3 ≤ length (spelled_line e)) × (length (spelled_line e) ≤ 5)
 unfolding spelled_line
-line_length_lem LineEvent.SupplyOn = omega arith
-line_length_lem LineEvent.SupplyOff = omega arith
-line_length_lem LineEvent.LockOn = omega arith
-line_length_lem LineEvent.LockOff = omega arith
+line_length_lem e = search rules
 
 event_length : (e : Event) → (5 ≤ length (spelled_event e)) × (length (spelled_event e) ≤ 10)
 unfolding spelled_event
-event_length (Event.Flash e) = omega (arith, flash_length_lem e)
-event_length (Event.Eeprom e) = omega (arith, eeprom_length_lem e)
-event_length (Event.Line e) = omega (arith, line_length_lem e)
+event_length e = search (rules, flash_length_lem, eeprom_length_lem, line_length_lem)
 
 -- a record's line: the stamp's digits, a tab, the event
 pub parts : (r : Record) → length (spelled r) ≡ length (decimal r.stamp) + 1 + length (spelled_event r.event)

@@ -1,6 +1,6 @@
 -- Bytes that are put one after another.
 use Prim.Native.Nat.{ℕ}
-use mathlib.Core.Path.{◌≡◌, sym, ap, ◌∙◌}
+use mathlib.Core.Path.{◌≡◌, ap, ◌∙◌}
 use mathlib.Core.List.{List, ◌++◌}
 use Rattle.field.specs.Spelling.{put_all}
 use Rattle.field.proofs.SpellingLaws.{put_then}
@@ -8,7 +8,3 @@ use Rattle.field.proofs.SpellingLaws.{put_then}
 -- bytes are put, and then more
 pub put_on : (s : List ℕ) (u v : List ℕ) {r q : List ℕ} → r ≡ put_all s u → q ≡ put_all r v → q ≡ put_all s (u ++ v)
 put_on s u v e f = f ∙ ap (λ (k : List ℕ). put_all k v) e ∙ put_then s u v
-
--- the case that a match told
-pub put_as : {A : Type 0} (spell : A → List ℕ) (s : List ℕ) {x y : A} {r : List ℕ} → x ≡ y → r ≡ put_all s (spell y) → r ≡ put_all s (spell x)
-put_as spell s e p = p ∙ ap (λ z. put_all s (spell z)) (sym e)

@@ -1,6 +1,6 @@
 -- The channels, and the record.
+use Rattle.std.proofs.Common.{rules}
 use Prim.Native.Nat.{ℕ, ◌≤◌}
-use native.Mathlib.Omega.{arith}
 use mathlib.Core.Path.{◌≡◌, refl, ap, ◌∙◌}
 use mathlib.Core.Bool.{true, false}
 use mathlib.Core.List.{List, [], ◌∷◌, ◌++◌}
@@ -60,45 +60,31 @@ event_tail (Line e) = spelled_line e
 
 event_parts : (y : Event) → spelled_event y ≡ channel_word y ++ (tab ++ event_tail y)
 unfolding spelled_event
-event_parts (Flash e) = refl
-event_parts (Eeprom e) = refl
-event_parts (Line e) = refl
+event_parts y = search rules
 
 channel_plain : (y : Event) → Plain (channel_word y)
-channel_plain (Flash e) = plain_of channel_f refl
-channel_plain (Eeprom e) = plain_of channel_e refl
-channel_plain (Line e) = plain_of channel_l refl
+channel_plain y = search (rules, plain_of)
 
 channel_allowed : (y : Event) → is_channel (channel_word y) ≡ true
 unfolding is_channel one_of same
-channel_allowed (Flash e) = refl
-channel_allowed (Eeprom e) = refl
-channel_allowed (Line e) = refl
+channel_allowed y = search rules
 
 heads : (a b : ℕ) → (a ≡ b → ⊥) → a ∷ [] ≡ b ∷ [] → ⊥
 heads a b n e = n (ap (λ (l : List ℕ). get_or l 0 0) e)
 
 of_flash_lem : (y : Event) → EventOk y × (channel_f ≡ channel_word y) → (x : FlashEvent) × FlashOk x × (y ≡ Flash x)
-of_flash_lem (Flash e) o = (e, o.0, refl)
-of_flash_lem (Eeprom e) o = absurd (heads 70 69 (λ z. omega arith) o.1)
-of_flash_lem (Line e) o = absurd (heads 70 76 (λ z. omega arith) o.1)
+of_flash_lem y o = search rules
 
 of_eeprom : (y : Event) → EventOk y × (channel_e ≡ channel_word y) → (x : EepromEvent) × EepromOk x × (y ≡ Eeprom x)
-of_eeprom (Flash e) o = absurd (heads 69 70 (λ z. omega arith) o.1)
-of_eeprom (Eeprom e) o = (e, o.0, refl)
-of_eeprom (Line e) o = absurd (heads 69 76 (λ z. omega arith) o.1)
+of_eeprom y o = search rules
 
 of_line_lem : (y : Event) → EventOk y × (channel_l ≡ channel_word y) → (x : LineEvent) × Unit {0} × (y ≡ Line x)
-of_line_lem (Flash e) o = absurd (heads 76 70 (λ z. omega arith) o.1)
-of_line_lem (Eeprom e) o = absurd (heads 76 69 (λ z. omega arith) o.1)
-of_line_lem (Line e) o = (e, tt, refl)
+of_line_lem y o = search rules
 
 -- no longer word is allowed
 channel_longer : (y : Event) (b : ℕ) (u : List ℕ) → is_channel (channel_word y ++ (b ∷ u)) ≡ false
 unfolding is_channel one_of same
-channel_longer (Flash e) b u = refl
-channel_longer (Eeprom e) b u = refl
-channel_longer (Line e) b u = refl
+channel_longer y b u = search rules
 
 module _ {text : List ℕ} {at : ℕ} where
   pub event_none : NoWord channel_f text at → NoWord channel_e text at → NoWord channel_l text at → ReadsEvent text at (bad_field 2)

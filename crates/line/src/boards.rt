@@ -55,6 +55,7 @@ fn in_range(b: Board) -> bool
 }
 
 // The line of a board in range.
+#[tactic(auto, using(crate::proofs::BoardLaws::put_from_nothing))]
 fn put_board(b: Board) -> Spelling
     requires { BoardOk b }
     ensures { result ≡ put_all no_bytes (spelled_board b) }
@@ -70,6 +71,7 @@ fn put_board(b: Board) -> Spelling
 }
 
 // Writes a board's line to the front of an output; how many bytes it has.
+#[tactic(auto, using(crate::proofs::OutputLaws::wrote_board, crate::proofs::OutputLaws::wrote_as, crate::proofs::OutputLaws::fits_board))]
 pub fn write_board(b: Board, out: &mut [u8]) -> Result<usize, WriteError>
     ensures { WroteBoard b out.old out.new result }
 {

@@ -42,6 +42,7 @@ pub fn read_eeprom(text: &[u8], c: Cursor) -> Result<(Event, Cursor), BadField>
     read_last(text, n, Event::Eeprom(EepromEvent::Cut))
 }
 
+#[tactic(auto, unfolding(crate::specs::Readers::spelled_bit))]
 fn put_bit(s: Spelling, ack: bool) -> Spelling
     ensures { result ≡ put_all s (spelled_bit ack) }
 {
@@ -52,6 +53,7 @@ fn put_bit(s: Spelling, ack: bool) -> Spelling
     }
 }
 
+#[tactic(auto, using(crate::proofs::EepromLaws::put_data), unfolding(crate::specs::ChannelE::spelled_eeprom))]
 pub fn put_eeprom(s: Spelling, e: EepromEvent) -> Spelling
     ensures { result ≡ put_all s (spelled_eeprom e) }
 {

@@ -43,6 +43,7 @@ pub fn read_flash(text: &[u8], c: Cursor) -> Result<(Event, Cursor), BadField>
     read_last(text, n, Event::Flash(FlashEvent::Cut))
 }
 
+#[tactic(auto, using(crate::proofs::FlashLaws::put_pair), unfolding(crate::specs::ChannelF::spelled_flash))]
 pub fn put_flash(s: Spelling, e: FlashEvent) -> Spelling
     ensures { result ≡ put_all s (spelled_flash e) }
 {

@@ -26,6 +26,7 @@ pub fn read_line(text: &[u8], c: Cursor) -> Result<(Event, Cursor), BadField>
     read_last(text, n, Event::Line(LineEvent::LockOff))
 }
 
+#[tactic(auto, unfolding(crate::specs::ChannelL::spelled_line))]
 pub fn put_line(s: Spelling, e: LineEvent) -> Spelling
     ensures { result ≡ put_all s (spelled_line e) }
 {

@@ -38,6 +38,7 @@ pub fn read_record(text: &[u8], c: Cursor) -> Result<(Record, Cursor), BadField>
     Ok((Record { stamp, event }, last))
 }
 
+#[tactic(auto, using(crate::proofs::RecordLaws::put_event_flash, crate::proofs::RecordLaws::put_event_eeprom, crate::proofs::RecordLaws::put_event_line), unfolding(crate::specs::Records::spelled_event))]
 fn put_event(s: Spelling, e: Event) -> Spelling
     ensures { result ≡ put_all s (spelled_event e) }
 {
@@ -49,6 +50,7 @@ fn put_event(s: Spelling, e: Event) -> Spelling
 }
 
 // Writes a record's line to the front of an output; how many bytes it has. No record is out of range: its stamp is a u32, its bytes are bytes, its bit is a bool.
+#[tactic(auto, using(crate::proofs::RecordLaws::put_record, crate::proofs::OutputLaws::wrote_as, crate::proofs::OutputLaws::fits_record))]
 pub fn write_record(rec: Record, out: &mut [u8]) -> Result<usize, WriteError>
     ensures { Wrote (spelled rec) out.old out.new result }
 {
