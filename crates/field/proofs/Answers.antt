@@ -8,7 +8,8 @@ use Rattle.std.proofs.lemmas.Result.{err_from_is_err_and}
 use Rattle.field.specs.declared.Cursor.{Cursor}
 use Rattle.field.specs.declared.BadField.{BadField}
 use Rattle.field.specs.Reads.{Stands, Reads}
-use Rattle.field.specs.Readers.{got, past, bad_field, content_at}
+use Rattle.field.specs.Read.{got, past, bad_field}
+use Rattle.field.specs.Readers.{content_at}
 use Rattle.field.proofs.Reading.{Tells, Got, got_none, got_bad}
 
 pub zero_one : ◌≡◌ {A = ℕ} 0 1 → ⊥

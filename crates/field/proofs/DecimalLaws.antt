@@ -18,7 +18,8 @@ use Rattle.law.specs.Words.{pick}
 use Rattle.std.specs.Prelude.{Option, None, Some}
 use Rattle.field.specs.Ends.{tab_byte, lf_byte}
 use Rattle.field.specs.Decimal.{largest, digits_in, decimal, digits_value, is_decimal}
-use Rattle.field.specs.Readers.{Read, got, bad_field, digit_on, push_of, content_at, ends_here, stopped_at, ReadsDecimal}
+use Rattle.field.specs.Read.{Read, got, bad_field}
+use Rattle.field.specs.Readers.{digit_on, push_of, content_at, ends_here, stopped_at, ReadsDecimal}
 use Rattle.field.specs.Reads.{Stands}
 use Rattle.field.proofs.FieldLaws.{Plain, plain_append, rest_at, content_ends, content_is, Tests, spells_tests}
 

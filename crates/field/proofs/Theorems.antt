@@ -6,7 +6,8 @@ use Rattle.std.specs.Prelude.{Result}
 use Rattle.field.specs.declared.Cursor.{Cursor}
 use Rattle.field.specs.declared.BadField.{BadField}
 use Rattle.field.specs.declared.ending.FieldEnd.{FieldEnd}
-use Rattle.field.specs.Readers.{Read, ReadsDecimal, ReadsHex, ReadsDigit, ReadsWord, ReadsEnd}
+use Rattle.field.specs.Read.{Read}
+use Rattle.field.specs.Readers.{ReadsDecimal, ReadsHex, ReadsDigit, ReadsWord, ReadsEnd}
 use Rattle.field.proofs.Reading.{determined}
 use Rattle.field.proofs.Answers.{tells_got, tells_past}
 

@@ -12,7 +12,8 @@ use Rattle.std.proofs.lemmas.Slice.Eq.{starts_is}
 use Rattle.std.proofs.lemmas.Bool.Decides.{Decides-eqb}
 use Rattle.law.specs.Choice.{true_not_false}
 use Rattle.field.specs.declared.ending.FieldEnd.{FieldEnd}
-use Rattle.field.specs.Readers.{past, bad_field, end_byte, end_number, ReadsWord, ReadsEnd}
+use Rattle.field.specs.Read.{past, bad_field}
+use Rattle.field.specs.Readers.{end_byte, end_number, ReadsWord, ReadsEnd}
 use Rattle.field.proofs.Reading.{stands_get_d, stands_length, stands_of, none, one, as_told}
 
 module _ (text w : List ℕ) (at n : ℕ) (h : length text < at) where

@@ -1,28 +1,16 @@
 -- What the readers of single fields promise, and the tables of the code that they use.
-use Rattle.std.specs.Prelude.{◌*◌, ◌+◌, ◌-◌, ◌<◌, ◌≤◌, ℕ, ◌≡◌, Bool, true, List, [], ◌∷◌, eqb, leb, ltb, drop, Option, None, Some, Result, Ok, Err}
+use Rattle.std.specs.Prelude.{◌*◌, ◌+◌, ◌-◌, ◌<◌, ◌≤◌, ℕ, ◌≡◌, Bool, true, List, [], ◌∷◌, eqb, leb, ltb, drop, Option, None, Some, Result}
 use Rattle.law.specs.Words.{pick}
+use Rattle.field.specs.declared.ending.FieldEnd.{FieldEnd}
 use Rattle.field.specs.declared.Cursor.{Cursor}
 use Rattle.field.specs.declared.BadField.{BadField}
-use Rattle.field.specs.declared.ending.FieldEnd.{FieldEnd}
 use Rattle.field.specs.Reads.{Reads}
+use Rattle.field.specs.Read.{Read, got, past, bad_field}
 use Rattle.field.specs.Ends.{tab_byte, lf_byte}
 use Rattle.field.specs.Fields.{fields_of, first_of}
 use Rattle.field.specs.Decimal.{decimal, largest}
 use Rattle.field.specs.Digit.{DigitOk, digit_field}
 use Rattle.field.specs.Hex.{hex_field}
-
--- the answers of a reader: a value and the place after it, that place alone, or the number of the bad field
-abbrev pub Read : Type 0 → Type 0
-Read T = Result (T × Cursor) BadField
-
-abbrev pub got : {T : Type 0} → T → ℕ → Read T
-got x p = Ok (x, record { at = p })
-
-abbrev pub past : ℕ → Result Cursor BadField
-past p = Ok (record { at = p })
-
-abbrev pub bad_field : {T : Type 0} → ℕ → Result T BadField
-bad_field n = Err (record { 0 = n })
 
 -- A reader of what a field begins with refuses with the field's own number n.
 abbrev pub ReadsHex : ℕ → List ℕ → ℕ → Read ℕ → Type 0

@@ -14,7 +14,8 @@ use Rattle.record.specs.Status.{StatusOk}
 use Rattle.field.specs.Decimal.{decimal}
 use Rattle.field.specs.Ends.{tab, lf}
 use Rattle.field.specs.Fields.{one_of, same}
-use Rattle.field.specs.Readers.{Read, got, bad_field, content_at, ends_here, end_number}
+use Rattle.field.specs.Read.{Read, got, bad_field}
+use Rattle.field.specs.Readers.{content_at, ends_here, end_number}
 use Rattle.field.specs.Hex.{hex_field}
 use Rattle.field.specs.Digit.{digit_field, DigitOk}
 use Rattle.field.specs.Reads.{Reads}

@@ -19,7 +19,8 @@ use Rattle.field.specs.Ends.{tab_byte, tab, lf}
 use Rattle.field.specs.Fields.{one_of, same}
 use Rattle.field.specs.Hex.{hex_field}
 use Rattle.field.specs.Digit.{digit_field, DigitOk}
-use Rattle.field.specs.Readers.{Read, got, bad_field, content_at, ends_here, end_number}
+use Rattle.field.specs.Read.{Read, got, bad_field}
+use Rattle.field.specs.Readers.{content_at, ends_here, end_number}
 use Rattle.field.specs.Spelling.{put_all}
 use Rattle.field.proofs.Reading.{Got}
 use Rattle.field.proofs.Answers.{both_same, No, GotWord, NoWord}

@@ -13,7 +13,8 @@ use Rattle.record.specs.declared.LineEvent.{LineEvent}
 use Rattle.record.specs.declared.LineEvent.TheVariants.{SupplyOn, SupplyOff, LockOn, LockOff}
 use Rattle.field.specs.Ends.{lf}
 use Rattle.field.specs.Fields.{one_of, same}
-use Rattle.field.specs.Readers.{Read, bad_field, content_at}
+use Rattle.field.specs.Read.{Read, bad_field}
+use Rattle.field.specs.Readers.{content_at}
 use Rattle.field.proofs.Answers.{GotWord, NoWord}
 use Rattle.field.proofs.FieldLaws.{Plain, plain_of}
 use Rattle.field.proofs.Sequence.{bad_content, last_word, not_word, word_begins, one_of_lem, none_of}

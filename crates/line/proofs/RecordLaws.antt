@@ -17,7 +17,8 @@ use Rattle.record.specs.declared.Record.{Record}
 use Rattle.field.specs.Decimal.{largest, decimal, is_decimal}
 use Rattle.field.specs.Ends.{tab}
 use Rattle.field.specs.Fields.{fields_of, first_bad, one_of, same}
-use Rattle.field.specs.Readers.{Read, got, bad_field, content_at, end_number}
+use Rattle.field.specs.Read.{Read, got, bad_field}
+use Rattle.field.specs.Readers.{content_at, end_number}
 use Rattle.field.specs.Reads.{Stands, Reads}
 use Rattle.field.specs.Spelling.{no_bytes, put_all}
 use Rattle.field.proofs.Reading.{Got, none, one}

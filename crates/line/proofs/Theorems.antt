@@ -29,7 +29,7 @@ use Rattle.line.specs.Boards.{spelled_board, spelled_places, BoardOk, ReadsBoard
 use Rattle.field.proofs.Answers.{tells_got}
 use Rattle.line.proofs.RecordLaws.{event_at, event_law}
 use Rattle.line.proofs.Whole.{paper_one, wrote_determined, spelled_if_accepted, accepted_if_spelled, reads_back, same_bytes}
-use Rattle.field.specs.Readers.{Read, got}
+use Rattle.field.specs.Read.{Read, got}
 use Rattle.std.specs.Prelude.{Result, Ok}
 use Rattle.line.specs.declared.output.WriteError.{WriteError}
 

@@ -11,7 +11,7 @@ use Rattle.field.specs.Reads.{Reads}
 use Rattle.line.specs.Places.{first_bad_of_board}
 use Rattle.line.specs.Words.{word_board}
 use Rattle.line.specs.Output.{on_paper, Wrote}
-use Rattle.field.specs.Readers.{Read, got, bad_field}
+use Rattle.field.specs.Read.{Read, got, bad_field}
 use Rattle.line.specs.declared.output.WriteError.{WriteError}
 
 unfoldable pub spelled_places : ℕ × ℕ → List ℕ

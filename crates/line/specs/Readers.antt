@@ -8,7 +8,8 @@ use Rattle.record.specs.declared.EepromEvent.{EepromEvent}
 use Rattle.field.specs.Ends.{lf, tab}
 use Rattle.field.specs.Hex.{hex_field}
 use Rattle.field.specs.Reads.{Reads}
-use Rattle.field.specs.Readers.{Read, got, bad_field, end_number}
+use Rattle.field.specs.Read.{Read, got, bad_field}
+use Rattle.field.specs.Readers.{end_number}
 use Rattle.line.specs.Boards.{PlacesOk, spelled_places}
 use Rattle.line.specs.ChannelE.{EepromOk, bit_digit, spelled_eeprom}
 use Rattle.line.specs.ChannelF.{FlashOk, spelled_flash}

@@ -13,7 +13,7 @@ use Rattle.line.specs.Words.{channel_f, channel_e, channel_l}
 use Rattle.line.specs.ChannelF.{spelled_flash, FlashOk}
 use Rattle.line.specs.ChannelE.{spelled_eeprom, EepromOk}
 use Rattle.line.specs.ChannelL.{spelled_line}
-use Rattle.field.specs.Readers.{Read, got, bad_field}
+use Rattle.field.specs.Read.{Read, got, bad_field}
 
 unfoldable pub spelled_event : Event → List ℕ
 spelled_event (Flash e) = channel_f ++ (tab ++ spelled_flash e)

@@ -1,5 +1,5 @@
 -- Believed: What the cycles do to the images, whole at `end` and cut by `off` (document 01, 'Flash rules', 'EEPROM rules', 'Supply'; requests 1/12 and 3/12), and which pages they touch.
-use Rattle.std.specs.Prelude.{◌≡◌, ℕ, ◌+◌, ◌/◌, ◌%◌, Bool, true, not, List, eqb, Option}
+use Rattle.std.specs.Prelude.{ℕ, ◌+◌, ◌/◌, ◌%◌, Bool, true, not, List, eqb, Option}
 use Rattle.std.specs.declared.option.Option.TheVariants as option
 use Rattle.law.specs.Words.{pick}
 use Rattle.record.specs.declared.Board.{Board}
@@ -81,12 +81,6 @@ abbrev pub stroke_pages : Stroke → Pages → Pages
 stroke_pages Nothing p = None
 stroke_pages Whole p = p
 stroke_pages Cut p = p
-
--- the same of pages of which P holds
-abbrev pub Touches : Stroke → (Pages → Type 0) → Pages → Type 0
-Touches Nothing P p = p ≡ None
-Touches Whole P p = P p
-Touches Cut P p = P p
 
 abbrev pub flash_touched : Stroke → ℕ → Flash → Pages
 flash_touched s watched f = stroke_pages s (flash_pages watched f.cycle f.status)

@@ -3,4 +3,5 @@ pub mod Effects
 pub mod Lent
 pub mod Machine
 pub mod Replies
+pub mod Touching
 pub mod Turn

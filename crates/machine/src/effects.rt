@@ -2,7 +2,8 @@
 ghost use Rattle.std.specs.Prelude.{◌≡◌};
 ghost use Rattle.image.specs.Image.{image_of};
 ghost use Rattle.times.specs.Times.{on_pages};
-ghost use Rattle.machine.specs.Effects.{stroke_of, line_stroke, stroke_for, reached, flash_pages, eeprom_pages, stroke_pages, Touches, program_by, erase_by, sent_in, store_by};
+ghost use Rattle.machine.specs.Touching.{Touches};
+ghost use Rattle.machine.specs.Effects.{stroke_of, line_stroke, stroke_for, reached, flash_pages, eeprom_pages, stroke_pages, program_by, erase_by, sent_in, store_by};
 
 use eeprom::{Eeprom, Sent};
 use flash::{Flash, FlashCycle};

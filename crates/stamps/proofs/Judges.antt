@@ -7,7 +7,7 @@ use Rattle.record.specs.declared.Board.{Board}
 use Rattle.std.specs.Prelude.{Ok, Err}
 use Rattle.field.specs.declared.Cursor.{Cursor}
 use Rattle.field.specs.declared.BadField.{BadField}
-use Rattle.field.specs.Readers.{Read}
+use Rattle.field.specs.Read.{Read}
 use Rattle.field.proofs.Reading.{got_none, got_one}
 use Rattle.line.specs.Records.{ReadsRecord}
 use Rattle.field.proofs.Answers.{tells_got}

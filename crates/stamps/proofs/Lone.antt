@@ -14,7 +14,8 @@ use Rattle.std.specs.Prelude.{Ok, Err}
 use Rattle.field.specs.declared.Cursor.{Cursor}
 use Rattle.field.specs.declared.BadField.{BadField}
 use Rattle.field.specs.Decimal.{decimal}
-use Rattle.field.specs.Readers.{Read, ReadsDecimal}
+use Rattle.field.specs.Read.{Read}
+use Rattle.field.specs.Readers.{ReadsDecimal}
 use Rattle.field.proofs.Reading.{got_none, got_one}
 use Rattle.field.proofs.Answers.{tells_got}
 use Rattle.field.proofs.FieldLaws.{content_stands}

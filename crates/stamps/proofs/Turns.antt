@@ -8,7 +8,7 @@ use Rattle.record.specs.declared.Record.{Record}
 use Rattle.std.specs.Prelude.{Ok, Err}
 use Rattle.field.specs.declared.Cursor.{Cursor}
 use Rattle.field.specs.declared.BadField.{BadField}
-use Rattle.field.specs.Readers.{Read}
+use Rattle.field.specs.Read.{Read}
 use Rattle.field.proofs.Reading.{Got, got_none, got_one}
 use Rattle.line.specs.Records.{spelled, RecordOk, ReadsRecord}
 use Rattle.field.proofs.Answers.{tells_got}

@@ -10,7 +10,7 @@ use Rattle.law.specs.Words.{All}
 use Rattle.record.specs.declared.Record.{Record}
 use Rattle.record.specs.declared.Board.{Board}
 use Rattle.record.specs.Lengths.{replies_length}
-use Rattle.field.specs.Readers.{Read, got}
+use Rattle.field.specs.Read.{Read, got}
 use Rattle.line.specs.Records.{spelled, RecordOk, ReadsRecord}
 use Rattle.line.specs.Boards.{spelled_board}
 use Rattle.line.proofs.OutputLaws.{spelled_length_min, board_length}
