@@ -1,14 +1,13 @@
 // A line that was put together is copied out.
 ghost use Rattle.std.specs.Prelude.{◌≡◌, ◌+◌, ◌≤◌, length};
 ghost use Rattle.std.proofs.lemmas.List.Edits.{sets};
-ghost use Rattle.field.specs.Room.{room};
 
 use field::Spelling;
 
 // Copies the line into the output from a place on; the place after it.
 // Kept: the new form is no plainer, because of a struct of the output and the place each contract would have to say that it still holds the caller's output.
-pub(crate) fn copy_line(line: Spelling, out: &mut [u8], at: usize) -> usize
-    requires { at + room ≤ length out.old }
+pub fn copy_line(line: Spelling, out: &mut [u8], at: usize) -> usize
+    requires { at + length line ≤ length out.old }
     ensures { (result ≡ at + length line) × (out.new ≡ sets out.old at line) }
 {
     let bytes = line.as_slice();

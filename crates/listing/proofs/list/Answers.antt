@@ -1,5 +1,7 @@
 use native.Mathlib.Omega.{arith}
-use mathlib.Core.Path.{sym, ◌∙◌}
+use mathlib.Core.Path.{sym, ap, ◌∙◌}
+use lib.ListN.{length}
+use Rattle.field.proofs.SpellingLaws.{holds}
 use mathlib.Core.Logic.{⊎_elim}
 use borrow.Author.Rules.{rules}
 use Rattle.law.specs.Choice.{via}
@@ -16,7 +18,9 @@ returns-then-refuses c =
     lists (λ lines. refused _ _ _ _ c.if-replies-ne-REPLIES.false (omega arith) (sym c.of.ensures ∙ c.in-Some.is) _ _ (via c.refuses.ensures c.if-refuses.true) l)
 
 pub copy_line-requires-2 : goal.copy_line-requires-2
-copy_line-requires-2 c = omega (arith, (played_lines c.if-replies-ne-REPLIES.false c.list_played-at.ensures).space, c.list_played-at.auto.out)
+copy_line-requires-2 c =
+    let short = last_length _ _ _ (search rules) (search rules) (search rules) in
+    omega (arith, (played_lines c.if-replies-ne-REPLIES.false c.list_played-at.ensures).space, c.list_played-at.auto.out, ap length (holds _ c.last_line.ensures short), short)
 
 pub returns : goal.returns
 returns c =

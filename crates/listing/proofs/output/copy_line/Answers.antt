@@ -7,4 +7,4 @@ use Rattle.listing.proofs.output.copy_line.Goals as goal
 pub returns : goal.returns
 returns c =
     let e = ap length c.as_slice-bytes.ensures.held in
-    (omega (arith, e), copied _ _ _ _ _ (omega (arith, c.as_slice-bytes.ensures.fits)) (omega (arith, e)) (c.copy_from_slice.ensures.after ∙ c.as_slice-bytes.ensures.held))
+    (omega (arith, e), copied _ _ _ _ _ (omega arith) (omega (arith, e)) (c.copy_from_slice.ensures.after ∙ c.as_slice-bytes.ensures.held))
