@@ -1,5 +1,5 @@
 use Rattle.std.proofs.Common.{not, ap, arith}
-use Rattle.merged.proofs.CallLaws.{merge_unfit, merge_refused, both_within, merge_short, length_small, merge_written}
+use Rattle.merged.proofs.CallLaws.{merge_unfit, merge_refused, merge_short, length_small, merge_written}
 use Rattle.merged.proofs.merge.Goals as goal
 
 pub returns-then-res-ne-RESULT : goal.returns-then-res-ne-RESULT
@@ -7,9 +7,6 @@ returns-then-res-ne-RESULT c = merge_unfit c.if-res-ne-RESULT.true c.into.ensure
 
 pub returns-in-Err : goal.returns-in-Err
 returns-in-Err c = merge_refused c.if-res-ne-RESULT.false c.judge.ensures c.in-Err.is c.into-in-Err.ensures c.put_answer-in-Err.ensures
-
-pub has_room-requires : goal.has_room-requires
-has_room-requires c = both_within c.judge.ensures c.in-Ok.is
 
 pub returns-then-not-has_room : goal.returns-then-not-has_room
 returns-then-not-has_room c =

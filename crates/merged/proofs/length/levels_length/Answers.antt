@@ -3,20 +3,14 @@ use Rattle.field.proofs.Reading.{got_none, got_one}
 use Rattle.level.proofs.LevelLaws.{tells_level}
 use Rattle.capture.proofs.OneByOne.{some_level, behind}
 use Rattle.capture.specs.OneByOne.{levels}
-use Rattle.merged.proofs.CountLaws.{levels_start, levels_none, levels_end, levels_next}
+use Rattle.merged.proofs.CountLaws.{levels_none, levels_end, levels_next}
 use Rattle.merged.proofs.length.levels_length.Goals as goal
-
-pub loop-at-init : goal.loop-at-init
-loop-at-init c = (omega arith, omega arith, levels_start c.of_flash-flash.ensures c.of_wires-wires.ensures)
 
 pub returns-in_default : goal.returns-in_default
 returns-in_default c = (
   levels_none c.loop-at.invariant.2 c.loop-at-test.true (got_none tells_level c.read_level.ensures c.in_default.is),
   omega (arith, c.loop-at.invariant.1, c.requires),
 )
-
-pub overflow_add-sum : goal.overflow_add-sum
-overflow_add-sum c = omega (arith, c.loop-at.invariant.0, c.loop-at-test.true, c.requires, c.out_length.ensures.1, c.out_length-in-loop-at.ensures.1)
 
 pub loop-at-smaller : goal.loop-at-smaller
 unfolding levels

@@ -3,24 +3,14 @@ use Rattle.law.specs.Choice.{via}
 use Rattle.field.proofs.Reading.{got_none, got_one}
 use Rattle.field.proofs.Answers.{tells_got}
 use Rattle.text.proofs.Standing.{got_record_place}
-use Rattle.merged.proofs.CountLaws.{taken_start, taken_none, taken_end, taken_next, taken_passed}
+use Rattle.merged.proofs.CountLaws.{taken_none, taken_end, taken_next, taken_passed}
 use Rattle.merged.proofs.length.taken_length.Goals as goal
-
-pub loop-at-init : goal.loop-at-init
-loop-at-init c = (omega arith, omega arith, taken_start)
 
 pub returns-in_default : goal.returns-in_default
 returns-in_default c = (
   taken_none c.loop-at.invariant.2 c.loop-at-test.true (got_none tells_got c.record_at.ensures c.in_default.is),
   omega (arith, c.loop-at.invariant.1, c.requires),
 )
-
-pub overflow_sub-sum : goal.overflow_sub-sum
-overflow_sub-sum c = let l = got_record_place (got_one tells_got c.record_at.ensures _ _ c.in-Ok.is) in omega arith
-
-pub overflow_add-sum : goal.overflow_add-sum
-overflow_add-sum c =
-    let l = got_record_place (got_one tells_got c.record_at.ensures _ _ c.in-Ok.is) in omega (arith, c.loop-at.invariant.0, c.requires)
 
 pub loop-at-smaller-then-is_taken : goal.loop-at-smaller-then-is_taken
 loop-at-smaller-then-is_taken c = let l = got_record_place (got_one tells_got c.record_at.ensures _ _ c.in-Ok.is) in omega arith

@@ -3,11 +3,8 @@ use Rattle.law.specs.Choice.{via}
 use Rattle.field.proofs.Reading.{got_none, got_one}
 use Rattle.field.proofs.Answers.{tells_got}
 use Rattle.text.proofs.Standing.{got_record_place}
-use Rattle.weave.proofs.FeedLaws.{trace_begin, trace_pass, trace_none, trace_end, trace_found, trace_on}
+use Rattle.weave.proofs.FeedLaws.{trace_pass, trace_none, trace_end, trace_found, trace_on}
 use Rattle.weave.proofs.feed.WithinSource.next.Goals as goal
-
-pub loop-at-init : goal.loop-at-init
-loop-at-init c = trace_pass trace_begin c.letter_of-letter.ensures c.line_with-at.ensures.0
 
 pub returns-in_default : goal.returns-in_default
 returns-in_default c = trace_none c.loop-at.invariant c.loop-at-test.true (got_none tells_got c.record_at.ensures c.in_default.is)
