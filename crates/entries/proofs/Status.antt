@@ -8,7 +8,6 @@ use Rattle.field.specs.Hex.{hex_field}
 use Rattle.field.specs.Ends.{lf}
 use Rattle.field.specs.Reads.{Stands}
 use Rattle.field.proofs.Reading.{Got}
-use Rattle.field.proofs.Answers.{No}
 use Rattle.std.specs.Prelude.{Some, None}
 use Rattle.entries.specs.Reading.{ReadsStatus}
 
@@ -22,13 +21,6 @@ unspelled text none = record { found = λ s h e. absurd (none s h e); only = tt 
 pub not_three : (text : List ℕ) → (length text ≡ 3 → ⊥) → ReadsStatus text None
 unfolding hex_field
 not_three text n = unspelled text (λ s h e. n (ap length e))
-
-pub no_lf : (text : List ℕ) → (get_or text 2 0 ≡ 10 → ⊥) → ReadsStatus text None
-unfolding hex_field
-no_lf text n = unspelled text (λ s h e. n (ap (λ (l : List ℕ). get_or l 2 0) e))
-
-pub no_hex : (text : List ℕ) → No hex_field (λ n. n < 256) text 0 → ReadsStatus text None
-no_hex text n = unspelled text (λ s h e. n s h (at_start text s e))
 
 -- one byte, which is LF
 one_byte : (rest : List ℕ) → length rest ≡ 1 → get_or rest 0 0 ≡ 10 → rest ≡ lf

@@ -5,13 +5,11 @@ use mathlib.Core.List.{List, [], ◌∷◌, ◌++◌, append_assoc}
 use Prim.Native.Nat.{ℕ, zero, suc, ◌+◌, ◌*◌, ◌≤◌, ◌<◌}
 use mathlib.Core.Logic.{⊎_elim}
 use native.Mathlib.Nat.{eq-or-lt_of_le, le_of_suc-le-suc, add-zero, add-suc, suc-add}
-use native.Mathlib.Numerals.{add-one, add-two, add-three}
 use native.Mathlib.Omega.{arith}
-use lib.ListN.{length, take, drop, set, get_or, length-append}
-use lib.Seq.{sets, sets-eq, length-sets, drop-drop, get_or-take, get_or-drop, ext_get_or}
-use Rattle.law.specs.Words.{pick, by_place}
-use Rattle.law.specs.Places.{by_place_length, by_place_at}
-use Rattle.page.specs.Geometry.{flash_page, flash_size, flash_sectors, sector_pages}
+use lib.ListN.{length, take, drop, set, length-append}
+use lib.Seq.{sets, sets-eq, length-sets, drop-drop}
+use Rattle.law.specs.Words.{pick}
+use Rattle.page.specs.Geometry.{flash_size, flash_sectors, sector_pages}
 use Rattle.fewest.specs.Below.{joined_below, joined_more, joined_same, joined_blocks}
 use Rattle.fewest.specs.Entries.{Entry, sector_erase, chip_erase, program}
 use Rattle.fewest.specs.Fewest.{address, spelled_entry, spelled_list, page_of}
@@ -50,20 +48,6 @@ room f n (suc m) l =
     ⊎_elim (λ (w : n ≡ m). subst (λ (k : ℕ). length (spelled_list (joined_below k f)) + length (spelled_list (f k)) ≤ length (spelled_list (joined_below m f ++ f m))) (sym w) (omega (arith, e)))
     (λ (w : n < m). omega (arith, e, room f n m w))
     (eq-or-lt_of_le (le_of_suc-le-suc l))
-
--- a part of that length filled place by place is the page
-pub page_filled : (wanted part : List ℕ) (n : ℕ) → length part ≡ flash_page → length wanted ≡ flash_size → n < 512
-    → by_place (λ q x. get_or wanted (256 * n + q) 0) 0 part ≡ page_of wanted n
-page_filled wanted part n e w l =
-    let f : ℕ → ℕ → ℕ = λ q x. get_or wanted (256 * n + q) 0 in
-    ext_get_or 0 (by_place f 0 part) (page_of wanted n) (by_place_length f 0 part ∙ e ∙ sym (length_page wanted n w l))
-    (λ i h.
-    let b : i < length part = subst (λ (k : ℕ). i < k) (by_place_length f 0 part) h in
-    by_place_at f i part b ∙ sym (get_or-take 256 (drop (256 * n) wanted) i 0 (subst (λ (k : ℕ). i < k) e b) ∙ get_or-drop (256 * n) wanted i 0))
-
--- four stores are a run of stores
-pub four_set : (l : List ℕ) (at a b c d : ℕ) → set (set (set (set l at a) (at + 1) b) (at + 2) c) (at + 3) d ≡ sets l at (a ∷ b ∷ c ∷ d ∷ [])
-four_set l at a b c d = simp (add-one, add-two, add-three)
 
 -- a program's entry: its head, and its page in the part behind it
 pub program_laid : (xs ys zs wanted : List ℕ) (n at m : ℕ) → ys ≡ sets xs at (3 ∷ address (256 * n)) → zs ≡ page_of wanted n
@@ -140,9 +124,6 @@ module _ (f : ℕ → List Entry) (first : ℕ) (l₀ : List ℕ) where
       ∙ ap₂ (λ (y : List ℕ) (k : ℕ). sets y k (spelled_list (f n))) s a
       ∙ followed l₀ first (spelled_list (joined_below n f)) (spelled_list (f n))
       ∙ ap (sets l₀ first) (sym (lay_bytes n))
-
-  pub lay_length : (at : ℕ) (l r : List ℕ) (x : List Entry) → r ≡ sets l at (spelled_list x) → length l ≡ length l₀ → length r ≡ length l₀
-  lay_length at l r x e h = ap (λ (y : List ℕ). length y) e ∙ length-sets l at (spelled_list x) ∙ h
 
 -- the chip's erase
 pub chip_entry : (present wanted : List ℕ) (chip : Bool) → chip ≡ true → spelled_list (erases present wanted chip) ≡ 2 ∷ address 0

@@ -364,7 +364,6 @@ impl Way<'_> {
 }
 
 // The first four bytes of an entry: its kind, and an address, high byte first.
-#[tactic(auto, using(crate::proofs::Laying::four_set))]
 fn put_head(list: &mut [u8], at: usize, kind: Kind, place: usize)
     requires { at + 4 ≤ length list.old }
     ensures { list.new ≡ sets list.old at (kind_byte kind ∷ address place) }

@@ -1,6 +1,6 @@
 use Rattle.std.proofs.Common.{arith, rules}
 use Rattle.entries.proofs.Status.{spells}
-use Rattle.entries.proofs.Printing.{short_left, unfit_room, unfit_left, outcome_ready, outcome_left}
+use Rattle.entries.proofs.Printing.{short_left, unfit_left, outcome_ready, outcome_left}
 use Rattle.entries.proofs.print_plan.Goals as goal
 
 pub returns-then-out-lt-ROOM : goal.returns-then-out-lt-ROOM
@@ -8,11 +8,6 @@ returns-then-out-lt-ROOM c =
     let a = c.args in
     short_left a.present.now a.wanted.now a.status.now a.out.now c.status_in-read.result c.status_in-read.ensures
     (λ k. omega (arith, c.type_inv.present k)) (λ k. omega (arith, c.type_inv.wanted k)) c.if-out-lt-ROOM.true
-
-pub copy_line-requires : goal.copy_line-requires
-copy_line-requires c =
-    let a = c.args in
-    unfit_room a.present.now a.wanted.now a.status.now a.out.now c.in_default.ensures c.from.result c.from.ensures c.if-out-lt-ROOM.false c.refusal_line-refusal.ensures
 
 pub returns-in_default : goal.returns-in_default
 returns-in_default c =

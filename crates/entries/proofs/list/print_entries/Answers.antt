@@ -1,10 +1,7 @@
 use Rattle.std.proofs.Common.{◌≡◌, ◌+◌, ◌-◌, ap, ◌∙◌, length, get_or, arith}
 use Rattle.entries.specs.Lines.{entry_size}
-use Rattle.entries.proofs.Walk.{still_start, still_turn, still_inside, still_known, still_room, still_more, still_ended, inside_head, told, told_kind}
+use Rattle.entries.proofs.Walk.{still_turn, still_inside, still_known, still_room, still_more, still_ended, inside_head, told, told_kind}
 use Rattle.entries.proofs.list.print_entries.Goals as goal
-
-pub loop-passed-init : goal.loop-passed-init
-loop-passed-init c = still_start _ _ _ c.requires.0 c.requires.1
 
 pub bounds-list-from : goal.bounds-list-from
 bounds-list-from c =
