@@ -9,11 +9,14 @@ use Rattle.eeprom.proofs.Compared.{eeprom_decides}
 use Rattle.controls.specs.declared.Controls.{Controls}
 use Rattle.controls.specs.contracts.ControlsPartialEq.TheImpl as controls-eq
 
-lines_decides : (a b : Lines) → Decides (lines-eq.ghosts.eq a b) (a ≡ b)
+pub lines_decides : (a b : Lines) → Decides (lines-eq.ghosts.eq a b) (a ≡ b)
 lines_decides a b = search rules
+
+pub all_same : (a b : Controls) → a.flash ≡ b.flash → a.eeprom ≡ b.eeprom → a.lines ≡ b.lines → a ≡ b
+all_same a b f e l i = record { flash = f i; eeprom = e i; lines = l i }
 
 pub controls_decides : (a b : Controls) → Decides (controls-eq.ghosts.eq a b) (a ≡ b)
 controls_decides a b =
     decides_as (decides_both (flash_decides a.flash b.flash) (decides_both (eeprom_decides a.eeprom b.eeprom) (lines_decides a.lines b.lines)))
-    (λ p i. record { flash = p.0 i; eeprom = p.1.0 i; lines = p.1.1 i })
+    (λ p. all_same a b p.0 p.1.0 p.1.1)
     (λ e. (ap (λ (c : Controls). c.flash) e, (ap (λ (c : Controls). c.eeprom) e, ap (λ (c : Controls). c.lines) e)))

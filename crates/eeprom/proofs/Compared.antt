@@ -12,16 +12,16 @@ use Rattle.eeprom.specs.contracts.SentPartialEq.TheImpl as sent-eq
 use Rattle.eeprom.specs.contracts.EepromFramePartialEq.TheImpl as frame-eq
 use Rattle.eeprom.specs.contracts.EepromPartialEq.TheImpl as eeprom-eq
 
-frame_decides : (a b : EepromFrame) → Decides (frame-eq.ghosts.eq a b) (a ≡ b)
+pub frame_decides : (a b : EepromFrame) → Decides (frame-eq.ghosts.eq a b) (a ≡ b)
 frame_decides a b = search rules
 
-cycle_decides : (a b : Option Sent) → Decides (option_eq sent-eq.ghosts.eq a b) (a ≡ b)
+pub cycle_decides : (a b : Option Sent) → Decides (option_eq sent-eq.ghosts.eq a b) (a ≡ b)
 cycle_decides a b = search rules
 
-counter_decides : (a b : Option ℕ) → Decides (option_eq nat_eq a b) (a ≡ b)
+pub counter_decides : (a b : Option ℕ) → Decides (option_eq nat_eq a b) (a ≡ b)
 counter_decides a b = search rules
 
-pages_decide : (a b : List ℕ) → Decides (pointwise nat_eq a b) (a ≡ b)
+pub pages_decide : (a b : List ℕ) → Decides (pointwise nat_eq a b) (a ≡ b)
 pages_decide a b = search rules
 
 pub eeprom_decides : (a b : Eeprom) → Decides (eeprom-eq.ghosts.eq a b) (a ≡ b)
