@@ -27,6 +27,7 @@ pub const MOST_LINE: usize = 2;
 pub const MOST_IN_ALL: usize = 2 * MOST_BUS + MOST_LINE;
 
 // Records, as many as the count says. It may say more than there is room for: then the stamp is crowded.
+// Kept: an array with its count, since document 01 prescribes arrays of record structs, passed and copied by value for each order of one stamp.
 #[derive(Clone, Copy)]
 pub struct Records<const N: usize> {
     pub records: [Record; N],
@@ -102,6 +103,7 @@ fn closes(rec: Record, board: Board, controls: Controls, wanted: Skeleton, met: 
 
 // The line record comes first, and then either kind.
 // Where a bus record is left, it and then this line record lead to `met`, and from there every order of the rest is known to agree: where the two lead there the other way round too, nothing is tried twice.
+// Kept: places in the two arrays go along with the record, since document 01 prescribes two functions, one taking a line record and one a bus record, that call each other.
 #[cycle(bus_next_line_next)]
 fn line_next(
     rec: Record,
