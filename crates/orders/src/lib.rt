@@ -44,16 +44,12 @@ impl<const N: usize> Records<N> {
     }
 
     // One record more, for which there is room.
-    pub fn push(self, rec: Record) -> Records<N>
-        requires { self.count < N }
-        ensures { result ≡ record { records = set self.entry.records self.entry.count rec; count = self.entry.count + 1 } }
+    pub fn push(&mut self, rec: Record)
+        requires { self.old.count < N }
+        ensures { self.new ≡ record { records = set self.old.records self.old.count rec; count = self.old.count + 1 } }
     {
-        let mut records = self.records;
-        records[self.count] = rec;
-        Records {
-            records,
-            count: self.count + 1,
-        }
+        self.records[self.count] = rec;
+        self.count += 1;
     }
 }
 
@@ -215,9 +211,10 @@ fn play_lines(tied: Tied, controls: Controls) -> Controls
 fn reference(tied: Tied, controls: Controls) -> Outcome
     ensures { Reference tied controls result }
 {
-    let Outcome { controls, replies } = play_buses(tied, controls);
+    let played = play_buses(tied, controls);
+    let replies = played.replies;
     Outcome {
-        controls: play_lines(tied, controls),
+        controls: play_lines(tied, played.controls),
         replies,
     }
 }
@@ -287,10 +284,9 @@ fn tell(told: Told, rec: Record) -> Told
         return told;
     }
     let next = lines_next(told.lines, rec);
-    Told {
-        kept: told.kept.push(rec),
-        lines: next,
-    }
+    let mut kept = told.kept;
+    kept.push(rec);
+    Told { kept, lines: next }
 }
 
 // The same records without those of the lines that repeat a state, which do nothing.

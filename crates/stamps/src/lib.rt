@@ -22,48 +22,35 @@ pub struct Gathered {
 }
 
 // One record more, where there is room; where there is none, the count says one more than the most.
-fn keep<const N: usize>(kept: Records<N>, rec: Record) -> Records<N>
+fn keep<const N: usize>(kept: &mut Records<N>, rec: Record)
     requires { N ≤ most_in_all }
-    ensures { result ≡ record { records = kept_array N kept.entry.records kept.entry.count rec; count = kept_count N kept.entry.count } }
+    ensures { kept.new ≡ record { records = kept_array N kept.old.records kept.old.count rec; count = kept_count N kept.old.count } }
 {
     if kept.count < N {
-        return kept.push(rec);
-    }
-    Records {
-        count: N + 1,
-        ..kept
+        kept.push(rec);
+    } else {
+        kept.count = N + 1;
     }
 }
 
 // One record more of the stamp goes to its channel.
-fn hold(held: Held, rec: Record) -> Held
-    ensures { result ≡ held_with held rec }
+fn hold(held: &mut Held, rec: Record)
+    ensures { held.new ≡ held_with held.old rec }
 {
     match rec.event {
-        Event::Flash(_) => Held {
-            flash: keep(held.flash, rec),
-            ..held
-        },
-        Event::Eeprom(_) => Held {
-            eeprom: keep(held.eeprom, rec),
-            ..held
-        },
-        Event::Line(_) => Held {
-            lines: keep(held.lines, rec),
-            ..held
-        },
+        Event::Flash(_) => keep(&mut held.flash, rec),
+        Event::Eeprom(_) => keep(&mut held.eeprom, rec),
+        Event::Line(_) => keep(&mut held.lines, rec),
     }
 }
 
 // The same, with those as they are written; the next one stands at `next`.
-fn gather_one(g: Gathered, rec: Record, next: usize) -> Gathered
-    ensures { result ≡ gathered_with g rec next }
+fn gather_one(g: &mut Gathered, rec: Record, next: usize)
+    ensures { g.new ≡ gathered_with g.old rec next }
 {
-    Gathered {
-        held: hold(g.held, rec),
-        records: keep(g.records, rec),
-        next,
-    }
+    hold(&mut g.held, rec);
+    keep(&mut g.records, rec);
+    g.next = next;
 }
 
 // A record that stands for none.
@@ -111,7 +98,7 @@ fn gather(text: &[u8], first: Gathered, stamp: u32) -> Gathered
         if rec.stamp != stamp {
             break;
         }
-        g = gather_one(g, rec, after.at);
+        gather_one(&mut g, rec, after.at);
         reader = reader.moved_to(after.at);
     }
     g
@@ -164,9 +151,11 @@ fn judge_alone(rec: Record, board: Board, controls: Controls) -> Verdict
 fn found_alone(rec: Record, next: usize, board: Board, controls: Controls) -> Judgement
     ensures { result ≡ alone_judgement board controls rec next }
 {
+    let mut records = none();
+    keep(&mut records, rec);
     Judgement {
         verdict: judge_alone(rec, board, controls),
-        records: keep(none(), rec),
+        records,
         next,
         stamp: rec.stamp,
     }
