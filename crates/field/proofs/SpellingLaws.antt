@@ -63,13 +63,19 @@ fitting w k n e =
     (lt_or_le (length w) k)
 
 -- it is copied behind the bytes that are held
-pub put_part : (bytes part w : List ℕ) (len k n : ℕ) → len ≤ room → length bytes ≡ room → n ≡ min (length w) (room - len) → part ≡ take n w → take (len + n) (put_mid len k bytes part) ≡ put_all (take len bytes) w
+put_part : (bytes part w : List ℕ) (len k n : ℕ) → len ≤ room → length bytes ≡ room → n ≡ min (length w) (room - len) → part ≡ take n w → take (len + n) (put_mid len k bytes part) ≡ put_all (take len bytes) w
 put_part bytes part w len k n h b e p =
     let s : length (take len bytes) ≡ len = length-take-le len bytes (omega arith) in
     let m : length part ≡ n = ap length p ∙ length-take-le n w (omega arith) in
     take-put_mid len k bytes part (len + n) (omega arith) (omega arith)
     ∙ ap (λ (l : List ℕ). take len bytes ++ l) (p ∙ fitting w (room - len) n e ∙ ap (λ (j : ℕ). take (room - j) w) (sym s))
     ∙ sym (put_room (take len bytes) w (omega arith))
+
+-- the same where the count may say more than there is room for
+pub put_within : (bytes part w : List ℕ) (len from k n : ℕ) → from ≡ min len room → length bytes ≡ room → n ≡ min (length w) (room - from) → part ≡ take n w → take (from + n) (put_mid from k bytes part) ≡ put_all (take len bytes) w
+put_within bytes part w len from k n f b e p =
+    put_part bytes part w from k n (omega arith) b e p
+    ∙ ap (λ (l : List ℕ). put_all l w) (fitting bytes len from (omega arith))
 
 -- a line that is short enough is held whole
 pub holds : (w : List ℕ) {s : List ℕ} → s ≡ put_all no_bytes w → length w ≤ room → s ≡ w

@@ -24,6 +24,7 @@ fn letter_value(byte: u8) -> u8
     }
 }
 
+// Kept: numbers, with 16 for none, in these two and no Option, since an Option is a branch (speed).
 // What one hex digit stands for. Both values are worked out and the lesser is taken, with no branch between digits and letters:
 // a processor would guess that branch wrong too often.
 fn nibble_of(byte: u8) -> Option<u8>

@@ -17,14 +17,11 @@ pub struct Spelling {
 }
 
 impl Model for Spelling {
-    ghost use Rattle.std.specs.Prelude.{ℕ, ◌≤◌, List, take};
-    ghost use Rattle.field.specs.Room.{room};
+    ghost use Rattle.std.specs.Prelude.{ℕ, List, take};
 
     ghost Value = { List ℕ };
 
     ghost view = { λ s. take s.len s.bytes };
-
-    ghost invariant = { λ s. s.len ≤ room };
 }
 
 impl Spelling {
@@ -42,15 +39,15 @@ impl Spelling {
         ensures held { result.now ≡ self.now }
         ensures fits { length self.now ≤ room }
     {
-        &self.bytes[..self.len]
+        &self.bytes[..self.len.min(ROOM)]
     }
 
     // The part of the word that fits is copied in place: the spelling is copied for no byte.
-    #[tactic(auto, using(crate::proofs::SpellingLaws::put_part))]
+    #[tactic(auto, using(crate::proofs::SpellingLaws::put_within))]
     pub fn word(mut self, word: &[u8]) -> Self
         ensures { result ≡ put_all self word.now }
     {
-        let from = self.len;
+        let from = self.len.min(ROOM);
         let n = word.len().min(ROOM - from);
         self.bytes[from..from + n].copy_from_slice(&word[..n]);
         self.len = from + n;
