@@ -37,14 +37,13 @@ pub struct Records<const N: usize> {
 impl<const N: usize> Records<N> {
     // The records that there are.
     pub fn as_slice(&self) -> &[Record]
-        requires { self.now.count ≤ N }
         ensures { result.now ≡ take self.now.count self.now.records }
     {
-        &self.records[..self.count]
+        &self.records[..self.count.min(N)]
     }
 
     // One record more, for which there is room.
-    pub fn push(&mut self, rec: Record)
+    fn push(&mut self, rec: Record)
         requires { self.old.count < N }
         ensures { self.new ≡ record { records = set self.old.records self.old.count rec; count = self.old.count + 1 } }
     {

@@ -27,7 +27,8 @@ fn keep<const N: usize>(kept: &mut Records<N>, rec: Record)
     ensures { kept.new ≡ record { records = kept_array N kept.old.records kept.old.count rec; count = kept_count N kept.old.count } }
 {
     if kept.count < N {
-        kept.push(rec);
+        kept.records[kept.count] = rec;
+        kept.count += 1;
     } else {
         kept.count = N + 1;
     }
