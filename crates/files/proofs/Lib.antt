@@ -1,0 +1,2 @@
+-- What the proofs of `files` share.
+pub mod Cases
