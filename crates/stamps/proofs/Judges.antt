@@ -1,5 +1,5 @@
 -- What `judge_at` finds, and that it is determined.
-use mathlib.Core.Path.{◌≡◌, refl, sym, ap, subst, ◌∙◌}
+use mathlib.Core.Path.{◌≡◌, refl, sym, subst}
 use mathlib.Core.List.{List, [], ◌∷◌}
 use Prim.Native.Nat.{ℕ}
 use Rattle.record.specs.declared.Record.{Record}
@@ -13,14 +13,13 @@ use Rattle.line.specs.Records.{ReadsRecord}
 use Rattle.field.proofs.Answers.{tells_got}
 use Rattle.line.proofs.Theorems.{record_same}
 use Rattle.controls.specs.declared.Controls.{Controls}
-use Rattle.orders.specs.declared.Verdict.{Verdict}
 use Rattle.orders.specs.declared.Verdict.TheVariants.{Crowded}
 use Rattle.orders.specs.Verdicts.{Judged}
 use Rattle.orders.proofs.OneVerdict.{one_verdict}
 use Rattle.stamps.specs.declared.Gathered.{Gathered}
 use Rattle.stamps.specs.declared.Judgement.{Judgement}
-use Rattle.stamps.specs.Gathering.{nothing_gathered, gathered_all, Shares, Gathers}
-use Rattle.stamps.specs.Judging.{judgement, JudgesAt}
+use Rattle.stamps.specs.Gathering.{nothing_gathered, gathered_all, Shares}
+use Rattle.stamps.specs.Judging.{judgement, JudgesAt, JudgesAll}
 use Rattle.stamps.specs.Judging.JudgesAt.{nothing, found}
 use Rattle.stamps.proofs.Sharing.{one_shares}
 
@@ -30,19 +29,19 @@ module _ (text : List ℕ) (place : ℕ) (b : Board) (c : Controls) where
     judges_none e j q = subst (JudgesAt text place b c) (sym q) (nothing (got_none tells_got d e))
 
     -- what was gathered from nothing begins with the record that was read
-    pub judges_some : (r : Record) (cur : Cursor) → a ≡ Ok (r, cur) → (none : Gathered) → none ≡ nothing_gathered place → (g : Gathered) → Gathers text r.stamp none g →
-        (v : Verdict) → Judged b g.held c v → JudgesAt text place b c (judgement v r.stamp g)
+    pub judges_some : (r : Record) (cur : Cursor) → a ≡ Ok (r, cur) → (j : Judgement) → JudgesAll text place r.stamp b c j → JudgesAt text place b c j
     unfolding Shares
-    judges_some r cur e none n g u v j =
-        let q = u.gathered ∙ ap (λ (y : Gathered). gathered_all y u.records) n in
-        subst (λ (y : Gathered). JudgesAt text place b c (judgement v r.stamp y)) (sym q)
-        (begun u.records (subst (λ (y : Gathered). Shares text r.stamp y.next u.records) n u.shares) (subst (λ (y : Gathered). Judged b y.held c v) q j))
+    judges_some r cur e j k =
+        let u = k.gathers in
+        subst (JudgesAt text place b c) (sym k.is)
+        (subst (λ (y : Gathered). JudgesAt text place b c (judgement k.verdict r.stamp y)) (sym u.gathered)
+        (begun u.records u.shares (subst (λ (y : Gathered). Judged b y.held c k.verdict) u.gathered k.judged)))
       where
-        begun : (p : List Record) → Shares text r.stamp place p → Judged b (gathered_all (nothing_gathered place) p).held c v → JudgesAt text place b c (judgement v r.stamp (gathered_all (nothing_gathered place) p))
+        begun : (p : List Record) → Shares text r.stamp place p → Judged b (gathered_all (nothing_gathered place) p).held c k.verdict → JudgesAt text place b c (judgement k.verdict r.stamp (gathered_all (nothing_gathered place) p))
         begun [] s h = let x = got_one tells_got d r cur.at e in absurd (s r x.ok x.stands refl)
         begun (y ∷ p) s h =
-            subst (λ (t : ℕ). JudgesAt text place b c (judgement v t (gathered_all (nothing_gathered place) (y ∷ p)))) s.2
-            (found y p v (subst (λ (t : ℕ). Shares text t place (y ∷ p)) (sym s.2) s) h)
+            subst (λ (t : ℕ). JudgesAt text place b c (judgement k.verdict t (gathered_all (nothing_gathered place) (y ∷ p)))) s.2
+            (found y p k.verdict (subst (λ (t : ℕ). Shares text t place (y ∷ p)) (sym s.2) s) h)
 
   -- any two answers that the promise of `judge_at` admits are equal
   pub judge_determined : {j k : Judgement} → JudgesAt text place b c j → JudgesAt text place b c k → j ≡ k

@@ -4,7 +4,7 @@
 ghost use Rattle.std.specs.Prelude.{◌≡◌, true, [], ◌≤◌, replicate};
 ghost use Rattle.meaning.specs.Channels.{most_in_all};
 ghost use Rattle.stamps.specs.Gathering.{kept_array, kept_count, held_with, gathered_with, no_record, nothing_gathered, Shares, Gathers};
-ghost use Rattle.stamps.specs.Judging.{JudgesAt};
+ghost use Rattle.stamps.specs.Judging.{JudgesAt, JudgesAll};
 ghost use Rattle.stamps.specs.Lone.{lost_after, alone_verdict, alone_judgement};
 
 use controls::Controls;
@@ -124,16 +124,21 @@ fn over_at(text: &[u8], place: usize, stamp: u32) -> bool
     }
 }
 
-// Whether the status is lost after a record: only a line record can lose it, so only that one is played.
+// Whether the status is lost after a record, which is played for it.
+fn lost_played(rec: Record, board: Board, controls: Controls) -> bool
+    ensures { result ≡ lost_after board controls rec }
+{
+    let next = controls.play(board, rec).controls;
+    next.lost()
+}
+
+// The same: only a line record can lose it, so only that one is played.
 fn lost_by(rec: Record, board: Board, controls: Controls) -> bool
     ensures { result ≡ lost_after board controls rec }
 {
     match rec.event {
         Event::Flash(_) | Event::Eeprom(_) => controls.lost(),
-        Event::Line(_) => {
-            let next = controls.play(board, rec).controls;
-            next.lost()
-        }
+        Event::Line(_) => lost_played(rec, board, controls),
     }
 }
 
@@ -152,13 +157,32 @@ fn judge_alone(rec: Record, board: Board, controls: Controls) -> Verdict
 fn found_alone(rec: Record, next: usize, board: Board, controls: Controls) -> Judgement
     ensures { result ≡ alone_judgement board controls rec next }
 {
-    let mut records = none();
-    keep(&mut records, rec);
+    let mut records = [no_record(); orders::MOST_IN_ALL];
+    records[0] = rec;
     Judgement {
         verdict: judge_alone(rec, board, controls),
-        records,
+        records: Records { records, count: 1 },
         next,
         stamp: rec.stamp,
+    }
+}
+
+// The judgement on a stamp of more, whose first record stands at the place. That record is read again with the others: records are then taken in at one place, and the compiler spares their copies.
+fn found_together(
+    text: &[u8],
+    place: usize,
+    stamp: u32,
+    board: Board,
+    controls: Controls,
+) -> Judgement
+    ensures { JudgesAll text.now place stamp board controls result }
+{
+    let g = gather(text, none_gathered(place), stamp);
+    Judgement {
+        verdict: orders::judge(g.held, board, controls),
+        records: g.records,
+        next: g.next,
+        stamp,
     }
 }
 
@@ -177,12 +201,5 @@ pub fn judge_at(text: &[u8], place: usize, board: Board, controls: Controls) -> 
     if over_at(text, after.at, first.stamp) {
         return found_alone(first, after.at, board, controls);
     }
-    // The first is read again with the others: records are then taken in at one place, and the compiler spares their copies.
-    let g = gather(text, none_gathered(place), first.stamp);
-    Judgement {
-        verdict: orders::judge(g.held, board, controls),
-        records: g.records,
-        next: g.next,
-        stamp: first.stamp,
-    }
+    found_together(text, place, first.stamp, board, controls)
 }

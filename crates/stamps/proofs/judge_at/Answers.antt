@@ -16,6 +16,4 @@ returns-then-over_at c =
     (c.over_at.ensures c.if-over_at.true) _ c.found_alone.ensures
 
 pub returns : goal.returns
-returns c =
-    judges_some _ _ _ _ _ c.record_at.ensures
-    _ _ c.in-Ok.is _ c.none_gathered.ensures _ c.gather-g.ensures _ c.judge.ensures
+returns c = judges_some _ _ _ _ _ c.record_at.ensures _ _ c.in-Ok.is _ c.found_together.ensures
