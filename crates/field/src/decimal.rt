@@ -47,6 +47,7 @@ pub fn read_decimal(text: &[u8], c: Cursor, number: u8) -> Result<(u32, Cursor),
 {
     let mut at = c.at;
     let mut so_far = None;
+    // Kept: the place is answered, so an iterator over the bytes would have to count it too.
     while let Some(&byte) = text.get(at) {
         let Some(value) = push(so_far, byte) else {
             break;

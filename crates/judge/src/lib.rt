@@ -180,6 +180,7 @@ fn check_levels(levels: &[u8], trace: &[u8], first: usize) -> Result<(Level, Cur
     let mut last = l;
     let mut number: usize = 2;
     let mut place = start;
+    // Kept: the place goes on by what was read, so no range gives it; the line's number goes beside it.
     while at < levels.len() {
         let Some((k, after)) = level::read_level(levels, Cursor { at }) else {
             return Err(LevelsRefusal {

@@ -78,6 +78,7 @@ fn stop_line(number: u32, stamp: u32) -> Spelling
 }
 
 // The last line of what was played.
+// Kept: an answer is a number here and in `refused_line`, as in `Told`.
 #[tactic(auto, unfolding(crate::specs::Lines::last_line))]
 pub fn last_line(answer: u32, stamp: u32, count: u32) -> Spelling
     ensures { result ≡ put_all no_bytes (last_line answer stamp count) }

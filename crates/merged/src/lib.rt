@@ -63,6 +63,7 @@ fn write_text(left: Weave<'_>, board: Board, output: &mut [u8]) -> usize
 }
 
 // Refusal 1, then both texts are judged, then 10, then the text is written.
+// Kept: the answer is a number by the C interface, which `desk_c` hands on.
 pub fn merge(levels: &[u8], trace: &[u8], output: &mut [u8], res: &mut [u8]) -> u32
     ensures { Merges levels.now trace.now (outputs_of output.old res.old) (wrote_as result (outputs_of output.new res.new)) }
 {

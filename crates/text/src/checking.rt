@@ -48,6 +48,7 @@ pub fn check_text(text: &[u8]) -> Result<(Board, Cursor), Refusal>
     let mut number: usize = 2;
     let mut last: u32 = 0;
     let mut buses = Buses::all_closed();
+    // Kept: the place goes on by what was read, so no range gives it; the line's number goes beside it.
     while at < text.len() {
         let (rec, next) = match crate::reader::record_at(text, at) {
             Ok(read) => read,
