@@ -4,7 +4,7 @@ use mathlib.Core.List.{List, [], ◌∷◌, ◌++◌, append_assoc}
 use Prim.Native.Nat.{ℕ, ◌+◌, ◌*◌, ◌≤◌, ◌<◌}
 use native.Mathlib.Numerals.{add-one}
 use native.Mathlib.Omega.{arith}
-use lib.ListN.{length, replicate, drop, drop_of_length-le, get_or, length-append, length-replicate}
+use lib.ListN.{length, replicate, take, drop, drop_of_length-le, get_or, length-append, length-replicate}
 use lib.Seq.{drop-cons}
 use Rattle.meaning.specs.Meaning.{after}
 use Rattle.meaning.specs.Listing.{said}
@@ -56,6 +56,12 @@ module _ (b : Board) where
   pub turned : (records : List Record) (k : ℕ) (d₀ d : Desk) → length records ≤ k → run_desk b (drop k records) d ≡ run_desk b records d₀ → d ≡ run_desk b records d₀
   unfolding run_desk
   turned records k d₀ d h q = rw (drop_of_length-le records {i = k} h) at q
+
+  -- a stamp of one record
+  pub turned_alone : (records : List Record) (d₀ d : Desk) (b' : Board) (x : Record) → 1 ≤ length records → b' ≡ b → d ≡ step_desk b' d₀ (get_or records 0 x) → d ≡ run_desk b (take 1 records) d₀
+  unfolding run_desk
+  turned_alone [] d₀ d b' x l s e = absurd (omega arith)
+  turned_alone (r ∷ rs) d₀ d b' x l s e = rw (← s) e
 
   -- the machine that the desk holds, where the pages were last written at y
   abbrev pub machine_on : Desk → Times → Machine

@@ -87,7 +87,7 @@ impl Desk<'_, '_> {
         }
     }
 
-    // Stamp by stamp: judged on the controls, then played.
+    // Stamp by stamp: judged on the controls, then played. A stamp of one record, as most are, is played without a loop of its own.
     fn run(&mut self, text: &[u8], first: usize) -> End
         requires short { length text.now ≤ text_limit }
         requires fresh { IsFresh self.old }
@@ -104,8 +104,13 @@ impl Desk<'_, '_> {
                     stamp: j.stamp,
                 };
             }
-            let many = j.records.count.min(orders::MOST_IN_ALL);
-            self.play_all(&j.records.records[..many]);
+            let records = j.records.records;
+            if j.records.count == 1 {
+                self.play(records[0]);
+            } else {
+                let many = j.records.count.min(orders::MOST_IN_ALL);
+                self.play_all(&records[..many]);
+            }
             place = j.next;
         }
         End {

@@ -1,4 +1,4 @@
-use Rattle.std.proofs.Common.{rules, arith, subst, ap, ◌∙◌, ◌≡◌, ◌≤◌, length, take}
+use Rattle.std.proofs.Common.{rules, arith, subst, ap, sym, ◌∙◌, ◌≡◌, ℕ, ◌≤◌, min, length, take}
 use Rattle.std.proofs.Math.ListN.{length-take}
 use Rattle.meaning.specs.Channels.{most_in_all}
 use Rattle.record.specs.declared.Board.{Board}
@@ -6,6 +6,7 @@ use Rattle.record.specs.declared.Record.{Record}
 use Rattle.stamps.specs.Judging.{JudgesAt}
 use Rattle.stamps.proofs.Found.{onward}
 use Rattle.call.specs.Steps.{run_desk}
+use Rattle.call.proofs.Playing.{turned_alone}
 use Rattle.walk.proofs.Loop.{comes_first, comes_next, runs_stops, runs_out, goes_passes}
 use Rattle.desk.specs.Desk.{desk_in}
 use Rattle.desk.proofs.Keeping.{kept_on}
@@ -27,6 +28,28 @@ returns-in-Some-clause-runs c =
     runs_stops _ _ _ _ _ _ c.requires.short _ _ _ _ _ _ _ i.comes c.loop-place-test.true _
     (subst (λ (b : Board). JudgesAt c.args.text.now c.loop-place.place b c.loop-place.self.controls c.judge_at-j.result) i.keeps.same_board c.judge_at-j.ensures)
     c.in-Some.ensures.0 _ c.in-Some.ensures.1
+
+pub loop-place-smaller-then-j-eq1 : goal.loop-place-smaller-then-j-eq1
+loop-place-smaller-then-j-eq1 c =
+    let o = onward c.judge_at-j.ensures (goes_passes _ c.in_default.ensures) in
+    omega (arith, o.0, o.1, c.loop-place-test.true)
+
+pub loop-place-preserved-then-j-eq1 : goal.loop-place-preserved-then-j-eq1
+loop-place-preserved-then-j-eq1 c =
+    let i = c.loop-place.invariant in
+    let j = c.judge_at-j.result in
+    let o = onward c.judge_at-j.ensures (goes_passes _ c.in_default.ensures) in
+    let p = c.play.ensures in
+    let long : length j.records.records ≡ most_in_all = search rules in
+    record {
+      keeps = kept_on i.keeps p.keeps;
+      numbered = omega (arith, i.numbered, o.0, p.counts.0);
+      counted = omega (arith, i.counted, o.0, p.counts.1);
+      comes = comes_next _ _ _ _ _ _ c.requires.short _ _ _ _ _ _ _ i.comes c.loop-place-test.true _
+          (subst (λ (b : Board). JudgesAt c.args.text.now c.loop-place.place b c.loop-place.self.controls j) i.keeps.same_board c.judge_at-j.ensures)
+          c.in_default.ensures _ 1 (ap (λ (k : ℕ). min k most_in_all) (sym c.if-j-eq1.true))
+          (turned_alone _ j.records.records _ _ _ _ (omega (arith, long)) i.keeps.same_board p.steps);
+    }
 
 pub loop-place-smaller : goal.loop-place-smaller
 loop-place-smaller c =
