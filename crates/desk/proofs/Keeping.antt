@@ -1,5 +1,7 @@
 -- What is kept over two steps.
-use mathlib.Core.Path.{◌∙◌}
+use mathlib.Core.Path.{◌≡◌, ◌∙◌}
+use lib.ListN.{length}
+use Rattle.machine.specs.Lent as lent
 use Rattle.desk.specs.declared.Desk.{Desk}
 use Rattle.desk.specs.Desk.{Keeps}
 
@@ -22,3 +24,17 @@ kept_on p q = record {
   times_long = q.times_long ∙ p.times_long;
   replies_long = q.replies_long ∙ p.replies_long;
 }
+
+-- and over a step between that changes the images alone
+pub kept_past : {a b b' c : Desk} → Keeps b' c → Keeps a b → b'.board ≡ b.board → b'.images.ghost_name ≡ b.images.ghost_name → lent.Keeps b.images.now b'.images.now →
+    b'.times.ghost_name ≡ b.times.ghost_name → b'.replies.ghost_name ≡ b.replies.ghost_name → length b'.times.now ≡ length b.times.now → length b'.replies.now ≡ length b.replies.now → Keeps a c
+kept_past q p board images played times replies times_long replies_long =
+    kept_on (kept_on p (record {
+      same_board = board;
+      same_images = images;
+      images = played;
+      same_times = times;
+      same_replies = replies;
+      times_long = times_long;
+      replies_long = replies_long;
+    })) q

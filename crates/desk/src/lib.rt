@@ -12,10 +12,10 @@ ghost use Rattle.buffers.specs.Buffers.{buffers_of, result_after};
 ghost use Rattle.record.specs.Answers.{answer_number};
 ghost use Rattle.machine.specs.Lent.{images_in};
 ghost use Rattle.machine.specs.Lent as lent;
-ghost use Rattle.call.specs.Steps.{step_desk, run_desk};
+ghost use Rattle.call.specs.Steps.{run_desk};
 ghost use Rattle.call.specs.Replay.{ended_as, Replays, chip_of};
 ghost use Rattle.call.specs.Run.{ended_with, Runs, Stops};
-ghost use Rattle.desk.specs.Desk.{desk_in, buffers_left, Keeps, IsFresh};
+ghost use Rattle.desk.specs.Desk.{desk_in, buffers_left, Keeps, Notes, IsFresh};
 ghost use Rattle.fewest.specs.Call.{left_as, Plans};
 ghost use Rattle.merged.specs.Merging.{outputs_of, wrote_as, Merges};
 ghost use Rattle.engine.specs.Playing.{lent_of, played_as, Plays};
@@ -23,14 +23,15 @@ ghost use Rattle.engine.specs.Playing.{lent_of, played_as, Plays};
 use controls::Controls;
 use machine::LentImages;
 use orders::Verdict;
-use record::{Answer, Board, Chip, Match, Record};
+use record::{Answer, Board, Chip, Match, Record, Reply};
 use text::Refusal;
+use times::Touched;
 
 // The desk while records are played as they are written: what is lent, how many records were played, and how many replies disagree.
+// The controls go beside it by value, as the machine takes them: behind the desk's reference each record would copy them once more.
 #[derive(Drop)]
 struct Desk<'b, 'i> {
     board: Board,
-    controls: Controls,
     images: &'b mut LentImages<'i>,
     times: &'b mut [u8],
     replies: &'b mut [u8],
@@ -58,33 +59,35 @@ fn stop_of(v: Verdict) -> Option<Answer>
 }
 
 impl Desk<'_, '_> {
-    // A record; the pages' times and the reply are written.
-    fn play(&mut self, rec: Record)
+    // What a record gave is written: its pages' times and its reply.
+    fn note(&mut self, rec: Record, reply: Reply, touched: Touched)
         requires { (self.old.number ≤ 1000000) × (self.old.count ≤ 1000000) }
         ensures keeps { Keeps self.old self.new }
-        ensures steps { desk_in self.new ≡ step_desk self.old.board (desk_in self.old) rec }
-        ensures counts { (self.new.number ≡ self.old.number + 1) × (self.new.count ≤ self.old.count + 1) }
+        ensures notes { Notes rec reply touched self.old self.new }
+        ensures counts { self.new.count ≤ self.old.count + 1 }
     {
-        let played = machine::play(self.board, self.controls, rec, self.images);
-        times::put_times(self.times, rec.stamp, played.touched);
-        let found = machine::compare(rec.event, played.reply);
+        times::put_times(self.times, rec.stamp, touched);
+        let found = machine::compare(rec.event, reply);
         let number = self.number;
-        buffers::put_reply(self.replies, number, played.reply, found);
-        self.controls = played.controls;
+        buffers::put_reply(self.replies, number, reply, found);
         self.number = number + 1;
         self.count += u32::from(found == Match::Disagrees);
     }
 
-    // The records of one stamp, as they are written.
-    fn play_all(&mut self, records: &[Record])
+    // The records of one stamp, as they are written; the controls after them.
+    fn play_all(&mut self, controls: Controls, records: &[Record]) -> Controls
         requires { (self.old.number + length records.now ≤ 1000000) × (self.old.count + length records.now ≤ 1000000) }
         ensures keeps { Keeps self.old self.new }
-        ensures runs { desk_in self.new ≡ run_desk self.old.board records.now (desk_in self.old) }
+        ensures runs { desk_in result self.new ≡ run_desk self.old.board records.now (desk_in controls self.old) }
         ensures counts { (self.new.number ≤ self.old.number + length records.now) × (self.new.count ≤ self.old.count + length records.now) }
     {
+        let mut cur = controls;
         for rec in records {
-            self.play(*rec);
+            let played = machine::play(self.board, cur, *rec, self.images);
+            self.note(*rec, played.reply, played.touched);
+            cur = played.controls;
         }
+        cur
     }
 
     // Stamp by stamp: judged on the controls, then played. A stamp of one record, as most are, is played without a loop of its own.
@@ -95,9 +98,10 @@ impl Desk<'_, '_> {
         ensures runs { Runs text.now first self.old.board (images_in self.old.images.now) self.old.times.now self.old.replies.now
             (ended_with result.answer result.stamp self.new.count (images_in self.new.images.now) self.new.times.now self.new.replies.now) }
     {
+        let mut cur = Controls::start(self.board);
         let mut place = first;
         while place < text.len() {
-            let j = stamps::judge_at(text, place, self.board, self.controls);
+            let j = stamps::judge_at(text, place, self.board, cur);
             if let Some(answer) = stop_of(j.verdict) {
                 return End {
                     answer,
@@ -106,10 +110,13 @@ impl Desk<'_, '_> {
             }
             let records = j.records.records;
             if j.records.count == 1 {
-                self.play(records[0]);
+                let alone = records[0];
+                let played = machine::play(self.board, cur, alone, self.images);
+                self.note(alone, played.reply, played.touched);
+                cur = played.controls;
             } else {
                 let many = j.records.count.min(orders::MOST_IN_ALL);
-                self.play_all(&records[..many]);
+                cur = self.play_all(cur, &records[..many]);
             }
             place = j.next;
         }
@@ -140,7 +147,6 @@ fn replay(
     buffers::clear_all(replies);
     let mut desk = Desk {
         board,
-        controls: Controls::start(board),
         images,
         times,
         replies,

@@ -1,17 +1,18 @@
-use Rattle.std.proofs.Common.{arith}
+use Rattle.std.proofs.Common.{arith, refl}
 use Rattle.call.proofs.Playing.{round, turned}
-use Rattle.desk.proofs.Keeping.{kept_on}
+use Rattle.desk.proofs.Keeping.{kept_past}
+use Rattle.desk.proofs.Noting.{noted}
 use Rattle.desk.proofs.Desk.play_all.Goals as goal
 
 pub loop-rec-preserved : goal.loop-rec-preserved
 loop-rec-preserved c =
     let i = c.loop-rec.invariant in
-    let p = c.play.ensures in
+    let n = c.note.ensures in
     record {
-      keeps = kept_on i.keeps p.keeps;
-      numbered = omega (arith, p.counts.0);
-      counted = omega (arith, p.counts.1);
-      rest = round _ _ _ _ _ _ _ _ c.loop-rec-test.true i.keeps.same_board p.steps i.rest;
+      keeps = kept_past n.keeps i.keeps refl refl c.play-played.ensures.keeps refl refl refl refl;
+      numbered = omega (arith, n.notes.number);
+      counted = omega (arith, n.counts);
+      rest = round _ _ _ _ _ _ _ _ c.loop-rec-test.true i.keeps.same_board (noted _ _ _ _ _ _ _ _ _ c.play-played.ensures.turns n.notes) i.rest;
     }
 
 pub returns-clause-runs : goal.returns-clause-runs

@@ -9,5 +9,5 @@ invariant-loop-rec l = record {
   keeps : Keeps l.initial.self l.self;
   numbered : l.self.number ≤ l.initial.self.number + l.rec-index;
   counted : l.self.count ≤ l.initial.self.count + l.rec-index;
-  rest : run_desk l.initial.self.board (drop l.rec-index l.records) (desk_in l.self) ≡ run_desk l.initial.self.board l.records (desk_in l.initial.self);
+  rest : run_desk l.initial.self.board (drop l.rec-index l.records) (desk_in l.cur l.self) ≡ run_desk l.initial.self.board l.records (desk_in l.initial.cur l.initial.self);
 }

@@ -9,7 +9,7 @@ invariant-loop-place l = record {
   keeps : Keeps l.initial.self l.self;
   numbered : l.self.number ≤ 3 * l.place;
   counted : l.self.count ≤ 3 * l.place;
-  comes : ComesTo l.text l.first l.initial.self.board (images_in l.initial.self.images.now) l.initial.self.times.now l.initial.self.replies.now l.place (desk_in l.self);
+  comes : ComesTo l.text l.first l.initial.self.board (images_in l.initial.self.images.now) l.initial.self.times.now l.initial.self.replies.now l.place (desk_in l.cur l.self);
 }
 
 abbrev pub decreases-loop-place : goal.decreases-loop-place
