@@ -25,7 +25,7 @@ fn play_all(left: Weave<'_>, board: Board, images: &mut LentImages<'_>)
 }
 
 // Refusal 1, then both texts are judged, then played.
-// Kept: a slice for each lent image, since desk_c exports the call to C.
+// Kept: a slice for each lent image, and a number for the answer, since desk_c exports the call to C.
 pub fn play_levels(
     levels: &[u8],
     trace: &[u8],
