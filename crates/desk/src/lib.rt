@@ -190,7 +190,7 @@ fn refuse_whole(res: &mut [u8], answer: Answer) -> u32
     )
 }
 
-// Kept: the lent buffers are a slice each: desk_c exports the call to C.
+// Kept: the lent buffers are a slice each, and the answer a number here and in what this calls: desk_c exports the call to C.
 // The call: document 01's table of answers 0 to 8, on the caller's own buffers; with the pages' times, and a 3 with its field (document 02, requests 1/12 and 2/12).
 pub fn hazelcrook_replay(
     text: &[u8],
@@ -267,7 +267,7 @@ pub fn hazelcrook_merge(levels: &[u8], trace: &[u8], output: &mut [u8], res: &mu
     merged::merge(levels, trace, output, res)
 }
 
-// Kept: a slice for each lent buffer, as above: desk_c exports it to C.
+// Kept: a slice for each lent buffer, and a number for the answer, as above: desk_c exports it to C.
 // The second engine, which plays the levels straight through: answers 0 to 5, 12 and 13 (document 02, request 4/12).
 pub fn hazelcrook_play_levels(
     levels: &[u8],
