@@ -23,11 +23,11 @@ fn print_outcome(answer: u32, list: &[u8], res: &[u8], out: &mut [u8]) -> usize
     ensures { (result ≡ length (outcome_lines answer list.now res.now)) × (out.new ≡ sets out.old 0 (outcome_lines answer list.now res.now)) }
 {
     if answer != 0 {
-        return listing::copy_line(lines::refusal_line(answer), out, 0);
+        return output::copy_line(lines::refusal_line(answer), out, 0);
     }
-    let number = listing::number_at(res, 4);
+    let number = reading::number_at(res, 4);
     let at = list::print_entries(list, number, out);
-    listing::copy_line(lines::cycles_line(number), out, at)
+    output::copy_line(lines::cycles_line(number), out, at)
 }
 
 // Prints the plan that refills a chip of the present content with the wanted one, under the status that the text spells; gives back how many bytes. The list has
@@ -42,7 +42,7 @@ pub fn print_plan(present: &[u8], wanted: &[u8], status: &[u8], out: &mut [u8]) 
     let Some(bits) = read else {
         // The call would refuse it first.
         let refusal = lines::refusal_line(u32::from(PlanAnswer::Unfit));
-        return listing::copy_line(refusal, out, 0);
+        return output::copy_line(refusal, out, 0);
     };
     let mut list = [0u8; planner::ROOM];
     let mut result = [0u8; record::PLAN_RESULT];

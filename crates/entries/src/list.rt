@@ -23,7 +23,7 @@ fn print_entry(list: &[u8], from: usize, kind: Kind, out: &mut [u8], first: usiz
     ensures { (result ≡ first + length (line_at list.now from)) × (out.new ≡ sets out.old first (line_at list.now from)) }
 {
     let head = lines::head_line(kind, list[from + 1], list[from + 2], list[from + 3]);
-    let at = listing::copy_line(head, out, first);
+    let at = output::copy_line(head, out, first);
     match kind {
         Kind::Program => output::print_page(list, from + planner::HEAD, out, at),
         Kind::SectorErase | Kind::ChipErase => at,

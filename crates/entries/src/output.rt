@@ -1,4 +1,4 @@
-// A page's bytes are written out in hex.
+// What was put together is copied out, and a page's bytes are written out in hex.
 ghost use Rattle.std.specs.Prelude.{◌≡◌, ◌++◌, ◌+◌, ◌*◌, ◌≤◌, length};
 ghost use Rattle.std.proofs.lemmas.List.Edits.{sets};
 ghost use Rattle.page.specs.Geometry.{flash_page};
@@ -11,12 +11,24 @@ use field::Spelling;
 
 const PAGE: usize = page::FLASH_PAGE as usize;
 
+// Copies the line into the output from a place on; the place after it.
+// Kept: listing's asks for room, so it is not public (D107).
+pub(crate) fn copy_line(line: Spelling, out: &mut [u8], at: usize) -> usize
+    requires { at + length line ≤ length out.old }
+    ensures { (result ≡ at + length line) × (out.new ≡ sets out.old at line) }
+{
+    let bytes = line.as_slice();
+    let end = at + bytes.len();
+    out[at..end].copy_from_slice(bytes);
+    end
+}
+
 // A byte in hex, from a place of the output on; the place after it.
 fn print_byte(byte: u8, out: &mut [u8], at: usize) -> usize
     requires { at + 2 ≤ length out.old }
     ensures { (result ≡ at + 2) × (out.new ≡ sets out.old at (hex_field byte)) }
 {
-    listing::copy_line(Spelling::new().hex(byte), out, at)
+    copy_line(Spelling::new().hex(byte), out, at)
 }
 
 // The page that stands in the list at a place, in hex, and LF; the place after them.

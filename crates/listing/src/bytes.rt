@@ -59,7 +59,7 @@ pub(crate) fn match_at(replies: &[u8], k: usize) -> Match
 
 // The number in four bytes, low byte first.
 #[tactic(auto, unfolding(crate::specs::Bytes::number_at))]
-pub fn number_at(bytes: &[u8], at: usize) -> u32
+pub(crate) fn number_at(bytes: &[u8], at: usize) -> u32
     requires { at + 4 ≤ length bytes.now }
     ensures { result ≡ number_at bytes.now at }
 {

@@ -15,9 +15,7 @@ mod output;
 mod pages;
 mod told;
 
-pub use bytes::number_at;
 use field::Cursor;
-pub use output::copy_line;
 use told::Told;
 pub use told::{count_of, refusal_of};
 

@@ -6,7 +6,7 @@ use field::Spelling;
 
 // Copies the line into the output from a place on; the place after it.
 // Kept: the new form is no plainer, because of a struct of the output and the place each contract would have to say that it still holds the caller's output.
-pub fn copy_line(line: Spelling, out: &mut [u8], at: usize) -> usize
+pub(crate) fn copy_line(line: Spelling, out: &mut [u8], at: usize) -> usize
     requires { at + length line ≤ length out.old }
     ensures { (result ≡ at + length line) × (out.new ≡ sets out.old at line) }
 {
