@@ -2,6 +2,7 @@
 use Prim.Native.Nat.{ℕ, zero, suc, ◌≤◌, ◌<◌}
 use native.Mathlib.Omega.{arith}
 use mathlib.Core.Path.{◌≡◌, refl, sym, ap, ap₂, subst, ◌∙◌}
+use denote.Ref.{Bor}
 use mathlib.Core.List.{List, [], ◌∷◌, ◌++◌, append_assoc}
 use Rattle.std.specs.Prelude.{Some, None}
 use lib.ListN.{length, get_or, set}
@@ -131,11 +132,17 @@ module _ (w : Weave) {i : ℕ} (k : Least w.numbers i) where
       order_all number_of (λ (r : Record). above ≤ number_of r) l.ordered
       (all_feeds (λ n. above ≤ n) (λ n j le q. omega arith) levels trace (feeds_of w) l.parts l.each (least_of m l above (ap head_number e)))
 
-  pub woven_done : {v : Weave} → get_or (feeds_of w) i over ≡ over → Weaves w None v
-  woven_done {v} e = record { weaves = λ m l. subst (WovenBy v None) (sym (no_head m (high e m l) l.below)) nothing }
+  pub woven_done : {v : Weave} → get_or (feeds_of w) i over ≡ over → (v.levels ≡ w.levels) × (v.trace ≡ w.trace) → Weaves w None v
+  woven_done {v} e s = record { weaves = λ m l. subst (WovenBy v None) (sym (no_head m (high e m l) l.below)) nothing; same = s }
 
   module _ (v : Weave) {x : Record} {p : Place} {f : Feed} {n : ℕ} (e : get_or (feeds_of w) i over ≡ ahead x p) (g : Feeds levels trace p f) (is-head : n ≡ head_number f)
-      (ns : v.numbers ≡ set w.numbers i n) (fs : feeds_of v ≡ set (feeds_of w) i f) (ls : levels ≡ v.levels.now) (ts : trace ≡ v.trace.now) where
+      (ns : v.numbers ≡ set w.numbers i n) (fs : feeds_of v ≡ set (feeds_of w) i f) (ls : v.levels ≡ w.levels) (ts : v.trace ≡ w.trace) where
+    levels_stay : levels ≡ v.levels.now
+    levels_stay = ap (λ (b : Bor (List ℕ)). b.now) (sym ls)
+
+    trace_stays : trace ≡ v.trace.now
+    trace_stays = ap (λ (b : Bor (List ℕ)). b.now) (sym ts)
+
     rest_numbers : (m : List Record) → Left w m → v.numbers ≡ numbers_of (feeds_of v)
     rest_numbers m l = ns ∙ ap₂ (λ (l : List ℕ) (c : ℕ). set l i c) l.numbers is-head ∙ put_number (feeds_of w) i f ∙ ap numbers_of (sym fs)
 
@@ -159,8 +166,8 @@ module _ (w : Weave) {i : ℕ} (k : Least w.numbers i) where
           parts = u.0;
           numbers = rest_numbers m l;
           each =
-              subst (λ (t : List ℕ). Each v.levels.now t (feeds_of v) u.0) ts
-              (subst (λ (t : List ℕ). Each t trace (feeds_of v) u.0) ls (subst (λ (l : List Feed). Each levels trace l u.0) (sym fs) u.1));
+              subst (λ (t : List ℕ). Each v.levels.now t (feeds_of v) u.0) trace_stays
+              (subst (λ (t : List ℕ). Each t trace (feeds_of v) u.0) levels_stay (subst (λ (l : List Feed). Each levels trace l u.0) (sym fs) u.1));
           ordered = subst (λ (v : List Record). InOrder number_of v o.0) (sym u.2) o.2;
           below = below_tail x o.0 (subst (All (λ (v : Record). number_of v < above)) o.1 l.below);
         }))
@@ -170,4 +177,5 @@ module _ (w : Weave) {i : ℕ} (k : Least w.numbers i) where
       weaves = λ m l.
           let z = among (feeds_of w) l.parts i l.each (within m l) in
           put_next m l z (get_or (feeds_of w) i over) z.own e z.gives z.rises z.is;
+      same = (ls, ts);
     }

@@ -65,14 +65,14 @@ none_left w v s (x ∷ m) l n = then_done (s (omega arith)) (x ∷ m) l
 -- feed i of w goes on, and r is what is taken from it: nothing else changes
 pub record TakesFrom (w v : Weave) (i : ℕ) (r : Option (Record × ℕ)) : Type 0 where
   pub feed : Feed
-  pub levels : w.levels.now ≡ v.levels.now
-  pub trace : w.trace.now ≡ v.trace.now
+  pub levels : v.levels ≡ w.levels
+  pub trace : v.trace ≡ w.trace
   pub numbers : v.numbers ≡ w.numbers
   pub feeds : feeds_of v ≡ set (feeds_of w) i feed
   pub none : r ≡ None → get_or (feeds_of w) i over ≡ over
   pub some : (x : Record) (n : ℕ) → r ≡ Some (x, n) → Took w.levels.now w.trace.now x n (get_or (feeds_of w) i over) feed
 
-module _ (w v : Weave) (i : ℕ) (r : Option (Record × ℕ)) (ls : w.levels.now ≡ v.levels.now) (ts : w.trace.now ≡ v.trace.now) (ns : v.numbers ≡ w.numbers) where
+module _ (w v : Weave) (i : ℕ) (r : Option (Record × ℕ)) (ls : v.levels ≡ w.levels) (ts : v.trace ≡ w.trace) (ns : v.numbers ≡ w.numbers) where
   pub levels_taken : (old new : LevelFeed) → TakesHead (FeedsLevels w.levels.now) old r new → get_or (feeds_of w) i over ≡ level_feed old → feeds_of v ≡ set (feeds_of w) i (level_feed new) → TakesFrom w v i r
   levels_taken old new t o fs = record {
     feed = level_feed new;
@@ -100,8 +100,8 @@ module _ (w v : Weave) (i : ℕ) (r : Option (Record × ℕ)) (ls : w.levels.now
   }
 
 module _ {w v : Weave} {i : ℕ} {r : Option (Record × ℕ)} (k : Least w.numbers i) (t : TakesFrom w v i r) where
-  pub next_none : {v' : Weave} → r ≡ None → Weaves w None v'
-  next_none e = woven_done w k (t.none e)
+  pub next_none : r ≡ None → Weaves w None v
+  next_none e = woven_done w k (t.none e) (t.levels, t.trace)
 
   pub next_some : {x : Record} {n : ℕ} → r ≡ Some (x, n) → Weaves w (Some x) (record v { numbers = set v.numbers i n })
   next_some {x} {n} e =

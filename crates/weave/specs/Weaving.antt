@@ -70,13 +70,14 @@ pub record Left (w : Weave) (m : List Record) : Type 0 where
   pub ordered : InOrder number_of (joined parts) m
   pub below : All (λ (r : Record). number_of r < above) m
 
--- the next of the records m, and the others
+-- the next of the records m, and the others, of the same two texts
 pub data WovenBy (w : Weave) : Option Record → List Record → Type 0 where
   nothing : WovenBy w None []
   following : (x : Record) (m : List Record) → Left w m → WovenBy w (Some x) (x ∷ m)
 
 pub record Weaves (w : Weave) (r : Option Record) (left : Weave) : Type 0 where
   pub weaves : (m : List Record) → Left w m → WovenBy left r m
+  pub same : (left.levels ≡ w.levels) × (left.trace ≡ w.trace)
 
 -- at the start all merged records are left
 pub record Starts (levels trace : List ℕ) (a : Level) (at first : ℕ) (w : Weave) : Type 0 where

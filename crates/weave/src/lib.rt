@@ -69,7 +69,8 @@ fn first_least(numbers: &[u64; FEEDS]) -> usize
 impl<'a> Weave<'a> {
     // All feeds at their first records: a is the capture's first line, at the place after it, first the place of the trace's first record.
     pub fn new(levels: &'a [u8], trace: &'a [u8], a: Level, at: usize, first: usize) -> Weave<'a>
-        ensures { Starts levels.now trace.now a at first result }
+        ensures starts { Starts levels.now trace.now a at first result }
+        ensures texts { (result.levels ≡ levels.entry) × (result.trace ≡ trace.entry) }
     {
         let behind = |bits| Behind {
             at,

@@ -11,5 +11,5 @@ returns-in-Err c =
 
 pub returns : goal.returns
 returns c =
-    call_both c.fits_images.ensures (ap not c.if-not-fits_images.false) c.judge.ensures c.in-Ok.is c.new-all.ensures c.play_all.ensures.plays
+    call_both c.fits_images.ensures (ap not c.if-not-fits_images.false) c.judge.ensures c.in-Ok.is c.new-all.ensures.starts c.play_all.ensures.plays
     (images_same (search rules) (search rules) (search rules) (search rules)) c.into-2.ensures c.put_answer-2.ensures

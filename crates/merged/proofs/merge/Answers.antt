@@ -15,12 +15,12 @@ returns-then-not-has_room c =
 
 pub returns : goal.returns
 returns c =
-    merge_written c.if-res-ne-RESULT.false c.judge.ensures c.in-Ok.is c.has_room.ensures (ap not c.if-not-has_room.false) c.new-all.ensures c.write_text-length.ensures
+    merge_written c.if-res-ne-RESULT.false c.judge.ensures c.in-Ok.is c.has_room.ensures (ap not c.if-not-has_room.false) c.new-all.ensures.starts c.write_text-length.ensures
     c.into-2.ensures c.put_answer-2.ensures
 
 pub overflow_cast-length : goal.overflow_cast-length
 overflow_cast-length c =
     omega (
       arith,
-      length_small c.judge.ensures c.in-Ok.is c.has_room.ensures (ap not c.if-not-has_room.false) c.new-all.ensures c.write_text-length.ensures,
+      length_small c.judge.ensures c.in-Ok.is c.has_room.ensures (ap not c.if-not-has_room.false) c.new-all.ensures.starts c.write_text-length.ensures,
     )
