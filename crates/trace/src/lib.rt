@@ -30,10 +30,7 @@ fn out_room() -> [u8; listing::ROOM] {
 pub fn print_trace<
     R: Files + Print + Eprint,
     F: FnOnce(&[u8], Option<&[u8]>, Option<&[u8]>, &mut [u8]) -> usize,
->(
-    rt: &R,
-    print: F,
-) -> Result<(), Unreadable>
+>(rt: &R, print: F) -> Result<(), Unreadable>
     requires callable { F.IsAlwaysCallable print }
     ensures { IfOk result (λ _. Called (F.post print)) }
 {
