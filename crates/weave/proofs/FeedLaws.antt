@@ -102,12 +102,13 @@ module _ {text : List ℕ} {w : Part} {from : ℕ} where
 
     pub trace_none : at < length text → ((r : Record) → RecordOk r → Stands text at (spelled r) → ⊥) → FeedsTrace text (within_of w from) None
     unfolding records
-    trace_none h n = record { feeds = λ levels xs k. let z = s.still xs k in absurd (not_none z.rs z.from h n) }
+    trace_none h n = record { feeds = λ levels xs k. let z = s.still xs k in absurd (not_none z.rs z.from h n); own_part = tt }
 
     pub trace_end : length text ≤ at → FeedsTrace text (within_of w from) None
     unfolding filter
     trace_end h = record {
       feeds = λ levels xs k. let z = s.still xs k in subst (Gives levels text (trace_feed None)) (sym (z.is ∙ ap (part_of w) (at_end some_record z.rs z.from h))) done;
+      own_part = tt;
     }
 
     module _ {r : Record} {p : ℕ} (g : Got spelled RecordOk text at r p) where
@@ -119,6 +120,7 @@ module _ {text : List ℕ} {w : Part} {from : ℕ} where
             let t = took some_record z.rs z.from g in
             subst (Gives levels text (trace_feed (Some (r, within_of w p)))) (sym (z.is ∙ ap (part_of w) t.2 ∙ part_in w r t.0 e))
             (next r (in_trace w p) (part_of w t.0) (record { rs = t.0; from = t.1; is = refl }));
+        own_part = refl;
       }
 
       pub trace_on : is_of w r.event ≡ false → StillTrace text w from p

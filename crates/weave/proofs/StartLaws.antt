@@ -83,6 +83,7 @@ start_law {lr} {tr} {a} {at} {first} {u} {v} {x} {y} {z} fu fv fx fy fz = record
       record {
         parts = flash ∷ eeprom ∷ part_of FlashEnds rs ∷ part_of EepromEnds rs ∷ part_of Lines rs ∷ [];
         numbers = λ t. levels_number u t ∷ levels_number v t ∷ trace_number x t ∷ trace_number y t ∷ trace_number z t ∷ [];
+        own_parts = (fx.own_part, fy.own_part, fz.own_part);
         each = (
           fu.feeds tr.now flash (capture_left q f c e flash_start),
           flash_rises (taken_of rs) a ls c.faultless,

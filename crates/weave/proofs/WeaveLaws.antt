@@ -14,7 +14,7 @@ use Rattle.record.specs.declared.Record.{Record}
 use Rattle.capture.specs.Merge.{number_of}
 use Rattle.weave.specs.declared.Weave.{Weave}
 use Rattle.weave.specs.Feeding.{Place, Feed, over, ahead, PlaceLeft, Gives, done, next, Feeds}
-use Rattle.weave.specs.Weaving.{above, head_number, feeds_of, numbers_of, number_at, Least, joined, Each, Left, WovenBy, nothing, following, Weaves}
+use Rattle.weave.specs.Weaving.{above, head_number, feeds_of, numbers_of, number_at, Least, joined, Each, OwnParts, Left, WovenBy, nothing, following, Weaves}
 
 -- ---- the numbers beside the feeds
 as_many : (fs : List Feed) → length (numbers_of fs) ≡ length fs
@@ -136,7 +136,7 @@ module _ (w : Weave) {i : ℕ} (k : Least w.numbers i) where
   woven_done {v} e s = record { weaves = λ m l. subst (WovenBy v None) (sym (no_head m (high e m l) l.below)) nothing; same = s }
 
   module _ (v : Weave) {x : Record} {p : Place} {f : Feed} {n : ℕ} (e : get_or (feeds_of w) i over ≡ ahead x p) (g : Feeds levels trace p f) (is-head : n ≡ head_number f)
-      (ns : v.numbers ≡ set w.numbers i n) (fs : feeds_of v ≡ set (feeds_of w) i f) (ls : v.levels ≡ w.levels) (ts : v.trace ≡ w.trace) where
+      (ns : v.numbers ≡ set w.numbers i n) (fs : feeds_of v ≡ set (feeds_of w) i f) (ls : v.levels ≡ w.levels) (ts : v.trace ≡ w.trace) (ps : OwnParts w → OwnParts v) where
     levels_stay : levels ≡ v.levels.now
     levels_stay = ap (λ (b : Bor (List ℕ)). b.now) (sym ls)
 
@@ -165,6 +165,7 @@ module _ (w : Weave) {i : ℕ} (k : Least w.numbers i) where
         (following x o.0 (record {
           parts = u.0;
           numbers = rest_numbers m l;
+          own_parts = ps l.own_parts;
           each =
               subst (λ (t : List ℕ). Each v.levels.now t (feeds_of v) u.0) trace_stays
               (subst (λ (t : List ℕ). Each t trace (feeds_of v) u.0) levels_stay (subst (λ (l : List Feed). Each levels trace l u.0) (sym fs) u.1));

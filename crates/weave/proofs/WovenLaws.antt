@@ -8,9 +8,10 @@ use Rattle.std.specs.Iterator.Adapters.{take_source, take_count, take_steps}
 use lib.ListN.{length, get_or, set}
 use mathlib.Core.List.{List, [], ◌∷◌}
 use Rattle.record.specs.declared.Record.{Record}
-use Rattle.weave.specs.Feeding.{LevelFeed, TraceFeed, Place, in_levels, in_trace, Feed, over, ahead, level_feed, trace_feed, Feeds, FeedsLevels, FeedsTrace}
+use Rattle.weave.specs.Feeding.{LevelFeed, TraceFeed, Place, in_levels, in_trace, Feed, over, ahead, level_feed, trace_feed, OfPart, Feeds, FeedsLevels, FeedsTrace}
 use Rattle.weave.specs.declared.Weave.{Weave}
-use Rattle.weave.specs.Weaving.{head_number, number_ahead, feeds_of, Least, TakesHead, Left, WovenBy, nothing, following, Weaves}
+use Rattle.capture.specs.declared.Part.{Part}
+use Rattle.weave.specs.Weaving.{head_number, number_ahead, feeds_of, Least, TakesHead, OwnParts, Left, WovenBy, nothing, following, Weaves}
 use Rattle.weave.proofs.WeaveLaws.{woven_done, woven_next}
 use Rattle.weave.proofs.FeedLaws.{feed_levels, feed_trace, levels_number, trace_number}
 
@@ -33,6 +34,11 @@ module _ {levels trace : List ℕ} {x : Record} {n : ℕ} where
   trace_took (Some (y, p)) new t =
       let both : (x, n) ≡ (y, number_ahead new) = cc (t.0) in
       record { place = in_trace p.part p.at; was = ap (λ (q : Record × ℕ). ahead q.0 (in_trace p.part p.at)) (sym both); feeds = feed_trace t.1; number = ap (λ (q : Record × ℕ). q.1) both ∙ trace_number new }
+
+-- a feed that goes on stays of its part
+own_stays : (trace : List ℕ) (x : Record) (n : ℕ) (old new : TraceFeed) → TakesHead (FeedsTrace trace) old (Some (x, n)) new → (part : Part) → OfPart part old → OfPart part new
+own_stays trace x n None new t part h = absurd (cc (t.0))
+own_stays trace x n (Some (y, p)) new t part h = subst (λ (c : Part). OfPart c new) h t.1.own_part
 
 pub levels_over : (levels : List ℕ) (old new : LevelFeed) → TakesHead (FeedsLevels levels) old None new → level_feed old ≡ over
 levels_over levels None new t = refl
@@ -71,10 +77,11 @@ pub record TakesFrom (w v : Weave) (i : ℕ) (r : Option (Record × ℕ)) : Type
   pub feeds : feeds_of v ≡ set (feeds_of w) i feed
   pub none : r ≡ None → get_or (feeds_of w) i over ≡ over
   pub some : (x : Record) (n : ℕ) → r ≡ Some (x, n) → Took w.levels.now w.trace.now x n (get_or (feeds_of w) i over) feed
+  pub own_parts : (x : Record) (n : ℕ) → r ≡ Some (x, n) → OwnParts w → OwnParts v
 
 module _ (w v : Weave) (i : ℕ) (r : Option (Record × ℕ)) (ls : v.levels ≡ w.levels) (ts : v.trace ≡ w.trace) (ns : v.numbers ≡ w.numbers) where
-  pub levels_taken : (old new : LevelFeed) → TakesHead (FeedsLevels w.levels.now) old r new → get_or (feeds_of w) i over ≡ level_feed old → feeds_of v ≡ set (feeds_of w) i (level_feed new) → TakesFrom w v i r
-  levels_taken old new t o fs = record {
+  pub levels_taken : (old new : LevelFeed) → TakesHead (FeedsLevels w.levels.now) old r new → get_or (feeds_of w) i over ≡ level_feed old → feeds_of v ≡ set (feeds_of w) i (level_feed new) → (OwnParts w → OwnParts v) → TakesFrom w v i r
+  levels_taken old new t o fs ps = record {
     feed = level_feed new;
     levels = ls;
     trace = ts;
@@ -84,10 +91,11 @@ module _ (w v : Weave) (i : ℕ) (r : Option (Record × ℕ)) (ls : v.levels ≡
     some = λ x n e.
         subst (λ (f : Feed). Took w.levels.now w.trace.now x n f (level_feed new)) (sym o)
         (levels_took old new (subst (λ (q : Option (Record × ℕ)). TakesHead (FeedsLevels w.levels.now) old q new) e t));
+    own_parts = λ x n e. ps;
   }
 
-  pub trace_taken : (old new : TraceFeed) → TakesHead (FeedsTrace w.trace.now) old r new → get_or (feeds_of w) i over ≡ trace_feed old → feeds_of v ≡ set (feeds_of w) i (trace_feed new) → TakesFrom w v i r
-  trace_taken old new t o fs = record {
+  pub trace_taken : (old new : TraceFeed) → TakesHead (FeedsTrace w.trace.now) old r new → get_or (feeds_of w) i over ≡ trace_feed old → feeds_of v ≡ set (feeds_of w) i (trace_feed new) → (((part : Part) → OfPart part old → OfPart part new) → OwnParts w → OwnParts v) → TakesFrom w v i r
+  trace_taken old new t o fs ps = record {
     feed = trace_feed new;
     levels = ls;
     trace = ts;
@@ -97,6 +105,7 @@ module _ (w v : Weave) (i : ℕ) (r : Option (Record × ℕ)) (ls : v.levels ≡
     some = λ x n e.
         subst (λ (f : Feed). Took w.levels.now w.trace.now x n f (trace_feed new)) (sym o)
         (trace_took old new (subst (λ (q : Option (Record × ℕ)). TakesHead (FeedsTrace w.trace.now) old q new) e t));
+    own_parts = λ x n e. ps (own_stays w.trace.now x n old new (subst (λ (q : Option (Record × ℕ)). TakesHead (FeedsTrace w.trace.now) old q new) e t));
   }
 
 module _ {w v : Weave} {i : ℕ} {r : Option (Record × ℕ)} (k : Least w.numbers i) (t : TakesFrom w v i r) where
@@ -106,4 +115,4 @@ module _ {w v : Weave} {i : ℕ} {r : Option (Record × ℕ)} (k : Least w.numbe
   pub next_some : {x : Record} {n : ℕ} → r ≡ Some (x, n) → Weaves w (Some x) (record v { numbers = set v.numbers i n })
   next_some {x} {n} e =
       let z = t.some x n e in
-      woven_next w k (record v { numbers = set v.numbers i n }) z.was z.feeds z.number (ap (λ (l : List ℕ). set l i n) t.numbers) t.feeds t.levels t.trace
+      woven_next w k (record v { numbers = set v.numbers i n }) z.was z.feeds z.number (ap (λ (l : List ℕ). set l i n) t.numbers) t.feeds t.levels t.trace (t.own_parts x n e)

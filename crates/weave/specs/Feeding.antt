@@ -1,5 +1,5 @@
 -- What a feed still has to give.
-use Rattle.std.specs.Prelude.{ℕ, ◌≡◌, Option, Some, None, List, [], ◌∷◌, ◌++◌}
+use Rattle.std.specs.Prelude.{ℕ, ◌≡◌, Option, Some, None, IfSome, List, [], ◌∷◌, ◌++◌}
 use Rattle.record.specs.declared.Record.{Record}
 use Rattle.level.specs.declared.Level.{Level}
 use Rattle.decode.specs.declared.Out.{Out}
@@ -83,12 +83,17 @@ pub data Gives (levels trace : List ℕ) : Feed → List Record → Type 0 where
   done : Gives levels trace over []
   next : (x : Record) (p : Place) (xs : List Record) → PlaceLeft levels trace p xs → Gives levels trace (ahead x p) (x ∷ xs)
 
+-- the feed goes on in this part of the trace
+abbrev pub OfPart : Part → TraceFeed → Type 0
+OfPart part r = IfSome r (λ x. x.1.part ≡ part)
+
 -- the feed r gives what is still to come at a place
 pub record FeedsLevels (levels : List ℕ) (p : Behind) (r : LevelFeed) : Type 0 where
   pub feeds : (trace : List ℕ) (xs : List Record) → LevelsLeft levels p xs → Gives levels trace (level_feed r) xs
 
 pub record FeedsTrace (trace : List ℕ) (p : Within) (r : TraceFeed) : Type 0 where
   pub feeds : (levels : List ℕ) (xs : List Record) → TraceLeft trace p.part p.at xs → Gives levels trace (trace_feed r) xs
+  pub own_part : OfPart p.part r
 
 pub record Feeds (levels trace : List ℕ) (p : Place) (r : Feed) : Type 0 where
   pub feeds : (xs : List Record) → PlaceLeft levels trace p xs → Gives levels trace r xs

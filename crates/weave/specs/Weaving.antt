@@ -8,11 +8,12 @@ use Rattle.line.specs.Boards.{spelled_board}
 use Rattle.text.specs.Texts.{Readable}
 use Rattle.level.specs.declared.Level.{Level}
 use Rattle.level.specs.Spelled.{spelled_level}
+use Rattle.capture.specs.declared.Part.TheVariants.{FlashEnds, EepromEnds, Lines}
 use Rattle.capture.specs.Taken.{taken_of}
 use Rattle.capture.specs.Captures.{Captures}
 use Rattle.capture.specs.Merge.{number_of, Merged}
 use Rattle.weave.specs.declared.Weave.{Weave}
-use Rattle.weave.specs.Feeding.{Feed, over, ahead, level_feed, trace_feed, Gives}
+use Rattle.weave.specs.Feeding.{Feed, over, ahead, level_feed, trace_feed, OfPart, Gives}
 
 -- above the number of every record: 3 · 2^32
 abbrev pub above : ℕ
@@ -36,6 +37,10 @@ TakesHead feeds (Some (x, p)) r new = (r ≡ Some (x, number_ahead new)) × feed
 abbrev pub feeds_of : Weave → List Feed
 feeds_of w =
     level_feed w.flash ∷ level_feed w.eeprom ∷ trace_feed w.flash_ends ∷ trace_feed w.eeprom_ends ∷ trace_feed w.lines ∷ []
+
+-- each of the three feeds of the trace is of its own part
+abbrev pub OwnParts : Weave → Type 0
+OwnParts w = OfPart FlashEnds w.flash_ends × OfPart EepromEnds w.eeprom_ends × OfPart Lines w.lines
 
 -- the numbers of their heads
 unfoldable pub numbers_of : List Feed → List ℕ
@@ -66,6 +71,7 @@ Each levels trace (f ∷ fs) (xs ∷ xss) = Gives levels trace f xs × Rising nu
 pub record Left (w : Weave) (m : List Record) : Type 0 where
   pub parts : List (List Record)
   pub numbers : w.numbers ≡ numbers_of (feeds_of w)
+  pub own_parts : OwnParts w
   pub each : Each w.levels.now w.trace.now (feeds_of w) parts
   pub ordered : InOrder number_of (joined parts) m
   pub below : All (λ (r : Record). number_of r < above) m

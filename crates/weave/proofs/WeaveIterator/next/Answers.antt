@@ -6,13 +6,13 @@ use Rattle.weave.proofs.WeaveIterator.next.Goals.{Joined-i, in-0, in-1, in-2, in
 taken : (c : Joined-i) → TakesFrom c.args.self.now c.match-i.self c.first_least-i.result c.match-i.branch'
 taken c =
     elim c.match-i.branch [
-      | in-0 w ↦ rw (w.self-is, w.branch'-is, w.in-0.is) (levels_taken _ _ _ _ refl refl refl _ _ w.take_head.ensures refl refl)
-      | in-1 w ↦ rw (w.self-is, w.branch'-is, w.in-1.is) (levels_taken _ _ _ _ refl refl refl _ _ w.take_head-in-1.ensures refl refl)
-      | in-2 w ↦ rw (w.self-is, w.branch'-is, w.in-2.is) (trace_taken _ _ _ _ refl refl refl _ _ w.take_head-in-2.ensures refl refl)
-      | in-3 w ↦ rw (w.self-is, w.branch'-is, w.in-3.is) (trace_taken _ _ _ _ refl refl refl _ _ w.take_head-in-3.ensures refl refl)
+      | in-0 w ↦ rw (w.self-is, w.branch'-is, w.in-0.is) (levels_taken _ _ _ _ refl refl refl _ _ w.take_head.ensures refl refl (λ q. q))
+      | in-1 w ↦ rw (w.self-is, w.branch'-is, w.in-1.is) (levels_taken _ _ _ _ refl refl refl _ _ w.take_head-in-1.ensures refl refl (λ q. q))
+      | in-2 w ↦ rw (w.self-is, w.branch'-is, w.in-2.is) (trace_taken _ _ _ _ refl refl refl _ _ w.take_head-in-2.ensures refl refl (λ s q. (s _ q.0, q.1, q.2)))
+      | in-3 w ↦ rw (w.self-is, w.branch'-is, w.in-3.is) (trace_taken _ _ _ _ refl refl refl _ _ w.take_head-in-3.ensures refl refl (λ s q. (q.0, s _ q.1, q.2)))
       | in_default w ↦
           let last : c.first_least-i.result ≡ 4 = omega arith in
-          rw (w.self-is, w.branch'-is, last) (trace_taken _ _ _ _ refl refl refl _ _ w.take_head-in_default.ensures refl refl)
+          rw (w.self-is, w.branch'-is, last) (trace_taken _ _ _ _ refl refl refl _ _ w.take_head-in_default.ensures refl refl (λ s q. (q.0, q.1, s _ q.2)))
     ]
 
 pub returns-in_err-rec-clause-steps : goal.returns-in_err-rec-clause-steps
