@@ -55,6 +55,7 @@ pub(crate) fn cycles_line(number: u32) -> Spelling
 }
 
 // A refusal's number.
+// Kept: the answer is a number by the C interface, as in print_outcome.
 #[tactic(auto, using(field::proofs::SpellingLaws::put_then), unfolding(crate::specs::Printed::refusal_line))]
 pub(crate) fn refusal_line(answer: u32) -> Spelling
     ensures { result ≡ put_all no_bytes (refusal_line answer) }

@@ -171,6 +171,7 @@ fn room() -> [u8; ROOM]
 }
 
 // Reads until the buffer is full or the input ends.
+// Kept: as in `files`; shared, it would be public for one call here, and this program stands on no crate that reads files.
 fn read_full<R: Read>(from: &mut R, buf: &mut [u8]) -> io::Result<usize>
     ensures { IfOk result (λ n. n ≤ length buf.new) }
 {

@@ -48,6 +48,7 @@ fn flash_pages<R: Print>(rt: &R, flash: &[u8], eeprom: &[u8]) -> io::Result<()> 
     Ok(())
 }
 
+// Kept: as the flash's; one function of both takes six parameters for two calls.
 fn eeprom_pages<R: Print>(rt: &R, flash: &[u8], eeprom: &[u8]) -> io::Result<()> {
     for number in [0, 1, 256, 511, 512] {
         print!(rt; "eeprom {number}\t")?;

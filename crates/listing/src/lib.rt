@@ -22,6 +22,7 @@ pub use told::{count_of, refusal_of};
 // Enough for any listing: a line for each reply, a heading and a last line.
 pub const ROOM: usize = field::ROOM * (record::REPLY_PLACES + 2);
 
+// Kept: `list` asks the lengths of the replies and of the output once; the functions below and in pages.rt ask for them in a clause each, since a type that holds the caller's slices would have to say that it still does.
 // A line for each record that was played, of those that stand from the first on; written from a place of the output on. The place after them.
 fn list_from(text: &[u8], first: Cursor, replies: &[u8], out: &mut [u8], from: usize) -> usize
     requires { (length replies.now ≡ replies_length) × (from ≤ room) × (listing_room ≤ length out.old) }

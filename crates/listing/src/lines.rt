@@ -1,4 +1,5 @@
 // The lines of the listings, each put together before it is copied out.
+// Kept: by the spelling's own methods, word, decimal and hex, and no Display, which would promise less: put_all says which bytes are appended.
 ghost use Rattle.std.specs.Prelude.{◌≡◌};
 ghost use Rattle.field.specs.Spelling.{no_bytes, put_all};
 ghost use Rattle.listing.specs.Pages.{pages_heading, chip_text, page_line};

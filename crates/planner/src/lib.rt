@@ -98,6 +98,7 @@ fn is_locked(status: u8, s: usize) -> bool
 }
 
 // What the flash has and what it is to have: each the whole chip's.
+// Kept: that a sector or a page is one of the chip's is asked of its number: the loops count them, and a type for each is no plainer.
 #[derive(Clone, Copy)]
 struct Contents<'a> {
     present: &'a [u8],

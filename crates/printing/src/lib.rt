@@ -12,6 +12,7 @@ mod merge;
 pub use merge::{MERGE_ROOM, Unmerged, print_merge};
 
 // The image that stands for a dump, of which so many bytes are to be lent.
+// Kept: the length stands beside the array, all of it or 0: a struct can't hold a slice of its own array.
 #[derive(Drop)]
 struct DumpImage<const N: usize> {
     image: [u8; N],

@@ -20,6 +20,7 @@ pub fn print_merge(levels: &[u8], trace: &[u8], out: &mut [u8]) -> Result<usize,
     }
     let mut result = [0u8; record::RESULT];
     let answer = merged::merge(levels, trace, out, &mut result);
+    // Kept: `merge` answers a number by the C interface, so 0 is compared here.
     if answer == 0 {
         return Ok(listing::count_of(&result) as usize);
     }

@@ -112,6 +112,7 @@ impl<'a> Iterator for Weave<'a> {
 
     fn next(&mut self) -> Option<Record> {
         let i = first_least(&self.numbers);
+        // Kept: an arm for each feed, since feeds of two types are in no array (above).
         let (rec, number) = match i {
             0 => feed::take_head(&mut self.flash, self.levels),
             1 => feed::take_head(&mut self.eeprom, self.levels),
