@@ -1,2 +1,2 @@
--- What a printer is to keep to.
+-- What is said of the call of a printer.
 pub mod Trace
