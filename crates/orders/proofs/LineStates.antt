@@ -25,7 +25,8 @@ use Rattle.tied.specs.Orders.{Order, done, bus_first, line_first, after, replies
 use Rattle.orders.specs.declared.Records.{Records}
 use Rattle.orders.specs.declared.tying.Tied.{Tied}
 use Rattle.orders.specs.declared.Told.{Told}
-use Rattle.orders.specs.Stamp.{played, reply, buses_from, lines_from, Settled}
+use Rattle.orders.specs.Stamp.{played, buses_from, lines_from, Settled}
+use Rattle.orders.specs.Verdicts.{says, OrdersAgree}
 use Rattle.orders.specs.LineStates.{of_line, OfBus, repeats_of, lines_next, telling, told_with, OnlyTelling}
 
 -- ---- one record: where it leaves the lines, and where it does nothing
@@ -135,14 +136,18 @@ module _ {R : Type 0} (b : Board) (reply : Controls → Record → R) where
         let z = h x.other y.other in
         (sym x.end ∙ z.0 ∙ y.end, sym x.said ∙ z.1 ∙ y.said)
 
--- what decides whether the orders without them agree decides it of all
-pub settled_telling : (h r : Tied) (s : Controls) → OnlyTelling h s.lines r → All OfBus (buses_from h 0) → {d : Bool} → Decides d (Settled r s) → Decides d (Settled h s)
-unfolding Settled
-settled_telling h r s k a {d} g =
-    let b : Decides d (AnyTwo (played h.board) (λ t q. (moved_of h.board t q).reply) (played h.board) (buses_from h 0) (lines_from r 0) s)
-    = subst₂ (λ (x : Board) (y : Records 8). Decides d (AnyTwo (played x) (λ t q. (moved_of x t q).reply) (played x) (drop 0 (take y.count y.records)) (lines_from r 0) s)) k.board k.buses g in
-    decides_as (rw k.lines at b)
-    (with_them h.board (reply h) (buses_from h 0) (lines_from h 0) a s) (without h.board (reply h) (buses_from h 0) (lines_from h 0) a s)
+-- what decides whether the orders without them agree decides it of all: of any records, whatever may share a stamp
+pub settled_telling : (b : Board) (bs ls ms : List Record) (s : Controls) → ms ≡ telling s.lines ls → All OfBus bs → {d : Bool} → Decides d (OrdersAgree b bs ms s) → Decides d (OrdersAgree b bs ls s)
+unfolding OrdersAgree
+settled_telling b bs ls ms s e a g = decides_as (rw e at g) (with_them b (says b) bs ls a s) (without b (says b) bs ls a s)
+
+-- the same of what is tied
+pub settled_tied : (h r : Tied) (s : Controls) → OnlyTelling h s.lines r → All OfBus (buses_from h 0) → {d : Bool} → Decides d (Settled r s) → Decides d (Settled h s)
+unfolding Settled OrdersAgree
+settled_tied h r s k a {d} g =
+    let b : Decides d (OrdersAgree h.board (buses_from h 0) (lines_from r 0) s)
+    = subst₂ (λ (x : Board) (y : Records 8). Decides d (OrdersAgree x (drop 0 (take y.count y.records)) (lines_from r 0) s)) k.board k.buses g in
+    settled_telling h.board (buses_from h 0) (lines_from h 0) (lines_from r 0) s k.lines a b
 
 -- ---- the loop over the line records xs: those kept, and what is kept of the rest, are what is kept of all
 pub record Retelling (xs : List Record) (l : Lines) (t : Told) (i : ℕ) : Type 0 where

@@ -15,11 +15,14 @@ use Rattle.flash.specs.declared.Flash.{Flash}
 use Rattle.flash.specs.Step as flash-rules
 use Rattle.controls.specs.declared.Controls.{Controls}
 use Rattle.controls.specs.Play.{event_moved, moved_of, lost_of}
+use Rattle.meaning.specs.Meaning.{F, E, L}
 use Rattle.tied.specs.Orders.{after_buses, after_lines}
+use Rattle.orders.specs.declared.Held.{Held}
 use Rattle.orders.specs.declared.tying.Tied.{Tied}
 use Rattle.orders.specs.Stamp.{played, buses_from, lines_from}
 use Rattle.orders.specs.LineStates.{of_line, OfBus}
-use Rattle.orders.specs.Lost.{is_off, NotOff, StatusStays}
+use Rattle.orders.specs.Verdicts.{held_of}
+use Rattle.orders.specs.Lost.{is_off, NotOff, StatusStays, TiedStays}
 
 -- ---- one record
 module _ (b : Board) where
@@ -49,5 +52,10 @@ module _ (b : Board) where
   lines_keep [] a s = refl
   lines_keep (r ∷ rs) a s = lines_keep rs a.1 (played b s r) ∙ keeps s r a.0
 
-pub all_stay : (t u : Tied) → All OfBus (buses_from t 0) → All OfBus (buses_from u 0) → All NotOff (lines_from t 0) → StatusStays t u
-all_stay t u f e l s = lines_keep t.board _ l _ ∙ buses_keep u.board _ e _ ∙ buses_keep t.board _ f s
+-- of whatever is held, also where it is more than may share a stamp
+pub all_stay : (b : Board) (h : Held) → All OfBus (held_of h F) → All OfBus (held_of h E) → All NotOff (held_of h L) → StatusStays b h
+all_stay b h f e l s = lines_keep b _ l _ ∙ buses_keep b _ e _ ∙ buses_keep b _ f s
+
+-- the same of what is tied
+pub tied_stay : (t u : Tied) → All OfBus (buses_from t 0) → All OfBus (buses_from u 0) → All NotOff (lines_from t 0) → TiedStays t u
+tied_stay t u f e l s = lines_keep t.board _ l _ ∙ buses_keep u.board _ e _ ∙ buses_keep t.board _ f s

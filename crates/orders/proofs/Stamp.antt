@@ -11,17 +11,19 @@ use Rattle.std.proofs.Common.{drop_of_length-le, drop-cons, length-take-le}
 use Rattle.meaning.specs.Meaning.{F, most}
 use Rattle.law.specs.Deciding.{Decides, decides_true, decides_false, decides_as}
 use Rattle.law.specs.Rest.{rest_cons, rest_nil}
+use Rattle.record.specs.declared.Board.{Board}
 use Rattle.record.specs.declared.Record.{Record}
 use Rattle.record.specs.declared.Skeleton.{Skeleton}
 use Rattle.record.specs.declared.Skeleton.TheVariants.{Silent}
 use Rattle.controls.specs.declared.Controls.{Controls}
 use Rattle.controls.specs.declared.Moved.{Moved}
 use Rattle.controls.specs.Play.{moved_of}
-use Rattle.tied.specs.Orders.{Order, done, bus_first, line_first, after, replies, buses_first, after_buses, said_buses, after_lines, AnyTwo}
+use Rattle.tied.specs.Orders.{Agree, AgreeBus, Order, done, bus_first, line_first, after, replies, buses_first, after_buses, said_buses, after_lines, AnyTwo}
 use Rattle.tied.proofs.Orders.{after_reference, replies_reference, reference_two, two_reference, agree_none, none_agree, agree_both, agree_buses, agree_lines, bus_agree, line_agree, reply_agree, rest_agree, agree_rest}
 use Rattle.orders.specs.declared.tying.Tied.{Tied}
 use Rattle.orders.specs.declared.tying.Outcome.{Outcome}
-use Rattle.orders.specs.Stamp.{BusesPlayed, Reference, Settled, bus, reply, line, buses_from, lines_from, AgreeFrom, BusAgrees, LineAgrees, Met}
+use Rattle.orders.specs.Stamp.{BusesPlayed, Reference, Settled, played, bus, reply, line, buses_from, lines_from, AgreeFrom, BusAgrees, LineAgrees, Met}
+use Rattle.orders.specs.Verdicts.{says}
 
 -- there is room for every reply
 all_told : (h : Tied) (w : Outcome) → h.buses.count ≤ length w.replies
@@ -83,30 +85,46 @@ module _ (h : Tied) (w : Outcome) (ib il : ℕ) (s : Controls) (r : Record) (d :
       (λ a. rw rs (agree_rest (bus h) (reply h) (line h) s w.controls r _ _ _ _ e₀ a))
       (λ a. rest_agree (bus h) (reply h) (line h) s w.controls r _ _ _ _ (rw rs at a))
 
--- what every order of the rest, from where a record leads, says of the orders that begin with it, and the other way round
-module _ (h : Tied) (w : Outcome) (ib il : ℕ) (s : Controls) where
-  pub closing : (r : Record) (d : Skeleton) → ib < h.buses.count → (m : Controls) → moved_of h.board s r ≡ record { controls = m; reply = get_or w.replies ib d } → AgreeFrom h (ib + 1) il m w → BusAgrees r h ib il s w
-  closing r d p m e a =
-      (after_bus h w ib il s r d p (moved_of h.board s r) refl (ap (λ (x : Moved). x.reply) e)
-      (decides_true (subst (λ (x : Moved). AgreeFrom h (ib + 1) il x.controls w) (sym e) a))).holds refl
+-- of any records and replies, each as many as a count says, whatever may share a stamp: every order from two places on agrees, and every order that begins with one bus record
+module _ (b : Board) (buses lines : List Record) (replies : List Skeleton) (bs ls : ℕ) (end : Controls) where
+  abbrev pub Agrees : ℕ → ℕ → Controls → Type 0
+  Agrees ib il s = Agree (played b) (says b) (played b) (drop ib (take bs buses)) (drop il (take ls lines)) s end (drop ib (take bs replies))
 
-  bus_after : (r : Record) → ib < h.buses.count → BusAgrees r h ib il s w → AgreeFrom h (ib + 1) il (bus h s r) w
-  unfolding AgreeFrom BusAgrees
-  bus_after r p a = rest_agree (bus h) (reply h) (line h) s w.controls r _ _ _ _ (rw (rest_cons w.replies _ ib (all_told h w) Silent p) at a)
+  abbrev pub Begins : Record → ℕ → ℕ → Controls → Type 0
+  Begins r ib il s = AgreeBus (played b) (says b) (played b) r (drop (ib + 1) (take bs buses)) (drop il (take ls lines)) s end (drop ib (take bs replies))
 
-  line_after : (d : Record) → il < h.lines.count → (n : Controls) → n ≡ line h s (get_or h.lines.records il d) → AgreeFrom h ib il s w → AgreeFrom h ib (il + 1) n w
-  unfolding AgreeFrom
-  line_after d q n e a = rw e (line_agree (bus h) (reply h) (line h) s w.controls _ (rw (rest_cons h.lines.records _ il h.lines_in d q) at a))
+  -- what every order of the rest, from where a record leads, says of the orders that begin with it, and the other way round
+  module _ (told : bs ≤ length replies) (ib il : ℕ) (s : Controls) (r : Record) (p : ib < bs) where
+    pub closing : (d : Skeleton) (m : Controls) → moved_of b s r ≡ record { controls = m; reply = get_or replies ib d } → Agrees (ib + 1) il m → Begins r ib il s
+    closing d m e a =
+        let goes : Agrees (ib + 1) il (played b s r) = subst (λ (x : Moved). Agrees (ib + 1) il x.controls) (sym e) a in
+        rw (rest_cons replies _ ib told d p) (agree_rest (played b) (says b) (played b) s end r _ _ _ _ (ap (λ (x : Moved). x.reply) e) goes)
 
--- where a bus record was played and then a line record, and where the next line record follows
+    bus_after : Begins r ib il s → Agrees (ib + 1) il (played b s r)
+    bus_after a = rest_agree (played b) (says b) (played b) s end r _ _ _ _ (rw (rest_cons replies _ ib told Silent p) at a)
+
+  module _ (all : ls ≤ length lines) (ib il : ℕ) (s : Controls) (d : Record) (q : il < ls) (n : Controls) (e : n ≡ played b s (get_or lines il d)) where
+    line_after : Agrees ib il s → Agrees ib (il + 1) n
+    line_after a = rw e (line_agree (played b) (says b) (played b) s end _ (rw (rest_cons lines _ il all d q) at a))
+
+  -- where a bus record was played and then a line record
+  pub meets : bs ≤ length replies → ls ≤ length lines → (ib il : ℕ) (s : Controls) (r : Record) → ib < bs → (d : Record) → il < ls → (m : Controls) → m ≡ played b (played b s r) (get_or lines il d) → Begins r ib il s → ib < bs → Agrees (ib + 1) (il + 1) m
+  meets told all ib il s r p d q m e a _ = line_after all (ib + 1) il (played b s r) d q m e (bus_after told ib il s r p a)
+
+-- the same of what is tied
 module _ (h : Tied) (w : Outcome) (ib il : ℕ) where
-  pub meets : (s : Controls) (b : Record) → ib < h.buses.count → (d : Record) → il < h.lines.count → (m : Controls) → m ≡ line h (bus h s b) (get_or h.lines.records il d) → BusAgrees b h ib il s w → Met h ib il m w
-  unfolding Met
-  meets s b p d q m e a = λ _. line_after h w (ib + 1) il (bus h s b) d q m e (bus_after h w ib il s b p a)
+  pub closing_tied : (s : Controls) (r : Record) (d : Skeleton) → ib < h.buses.count → (m : Controls) → moved_of h.board s r ≡ record { controls = m; reply = get_or w.replies ib d } → AgreeFrom h (ib + 1) il m w → BusAgrees r h ib il s w
+  unfolding AgreeFrom BusAgrees
+  closing_tied s r d p m e a = closing h.board h.buses.records h.lines.records w.replies h.buses.count h.lines.count w.controls (all_told h w) ib il s r p d m e a
 
+  pub meets_tied : (s : Controls) (b : Record) → ib < h.buses.count → (d : Record) → il < h.lines.count → (m : Controls) → m ≡ line h (bus h s b) (get_or h.lines.records il d) → BusAgrees b h ib il s w → Met h ib il m w
+  unfolding AgreeFrom BusAgrees Met
+  meets_tied s b p d q m e a = meets h.board h.buses.records h.lines.records w.replies h.buses.count h.lines.count w.controls (all_told h w) h.lines_in ib il s b p d q m e a
+
+  -- where the next line record follows
   pub meets_on : (m : Controls) (d : Record) → il + 1 < h.lines.count → (n : Controls) → n ≡ line h m (get_or h.lines.records (il + 1) d) → Met h ib il m w → Met h ib (il + 1) n w
-  unfolding Met
-  meets_on m d q n e k = λ p. line_after h w (ib + 1) (il + 1) m d q n e (k p)
+  unfolding AgreeFrom Met
+  meets_on m d q n e k = λ p. line_after h.board h.buses.records h.lines.records w.replies h.buses.count h.lines.count w.controls h.lines_in (ib + 1) (il + 1) m d q n e (k p)
 
 beyond : {m n : ℕ} → m ≤ n → n < m → ⊥
 beyond p q = omega arith

@@ -10,7 +10,7 @@ ghost use Rattle.tied.specs.Orders.{after_lines};
 ghost use Rattle.orders.specs.Verdicts.{last_tied, Judged};
 ghost use Rattle.meaning.specs.Meaning.{L, most};
 ghost use Rattle.orders.specs.Stamp.{played, line, Within, BusesPlayed, Reference, Settled, LineAgrees, BusAgrees, Met, buses_from, lines_from};
-ghost use Rattle.orders.specs.Lost.{is_off, StatusStays};
+ghost use Rattle.orders.specs.Lost.{is_off, TiedStays};
 ghost use Rattle.orders.specs.LineStates.{of_line, repeats_of, lines_next, told_with, OnlyTelling};
 
 use controls::Controls;
@@ -344,7 +344,7 @@ fn none_off(tied: Tied) -> bool
 
 // Whether no record can lose the status: only `off` can.
 fn status_stays(flash: Tied, eeprom: Tied) -> bool
-    ensures { result ≡ true → StatusStays flash eeprom }
+    ensures { result ≡ true → TiedStays flash eeprom }
 {
     own(flash) && own(eeprom) && none_off(flash)
 }

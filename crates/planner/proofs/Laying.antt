@@ -6,9 +6,10 @@ use Prim.Native.Nat.{ℕ, zero, suc, ◌+◌, ◌*◌, ◌≤◌, ◌<◌}
 use mathlib.Core.Logic.{⊎_elim}
 use native.Mathlib.Nat.{eq-or-lt_of_le, le_of_suc-le-suc, add-zero, add-suc, suc-add}
 use native.Mathlib.Omega.{arith}
-use lib.ListN.{length, take, drop, set, length-append}
-use lib.Seq.{sets, sets-eq, length-sets, drop-drop}
-use Rattle.law.specs.Words.{pick}
+use lib.ListN.{length, take, drop, get_or, set, length-append}
+use lib.Seq.{sets, sets-eq, length-sets, drop-drop, ext_get_or}
+use Rattle.law.specs.Words.{pick, by_place}
+use Rattle.law.specs.Places.{by_place_length, by_place_at}
 use Rattle.page.specs.Geometry.{flash_size, flash_sectors, sector_pages}
 use Rattle.fewest.specs.Below.{joined_below, joined_more, joined_same, joined_blocks}
 use Rattle.fewest.specs.Entries.{Entry, sector_erase, chip_erase, program}
@@ -24,6 +25,12 @@ followed l i [] ws = ap (λ (k : ℕ). sets l k ws) (add-zero i)
 followed l i (a ∷ vs) ws =
     ap (λ (k : ℕ). sets (sets (set l i a) (suc i) vs) k ws) (add-suc i (length vs) ∙ sym (suc-add i (length vs)))
     ∙ followed (set l i a) (suc i) vs ws
+
+-- a part filled place by place with as many bytes is those bytes
+pub filled : (bytes part : List ℕ) → length part ≡ length bytes → by_place (λ q x. get_or bytes q 0) 0 part ≡ bytes
+filled bytes part e =
+    let f : ℕ → ℕ → ℕ = λ q x. get_or bytes q 0 in
+    ext_get_or 0 (by_place f 0 part) bytes (by_place_length f 0 part ∙ e) (λ i h. by_place_at f i part (subst (λ (k : ℕ). i < k) (by_place_length f 0 part) h))
 
 -- a part that was lent comes back where it stood
 pub landed : (xs ys : List ℕ) (at n : ℕ) → length ys ≡ n → at + n ≤ length xs → take at xs ++ (ys ++ drop n (drop at xs)) ≡ sets xs at ys

@@ -206,7 +206,10 @@ impl Contents<'_> {
         put_head(list, at, Kind::Program, PAGE * n);
         let from = at + HEAD;
         let first = PAGE * n;
-        list[from..from + PAGE].copy_from_slice(&self.wanted[first..first + PAGE]);
+        fill_page(
+            &mut list[from..from + PAGE],
+            &self.wanted[first..first + PAGE],
+        );
     }
 
     // The program of page n where the test holds of it, else nothing; where the next entry goes.
@@ -371,6 +374,17 @@ fn put_head(list: &mut [u8], at: usize, kind: Kind, place: usize)
 {
     let [.., high, middle, low] = place.to_be_bytes();
     list[at..at + HEAD].copy_from_slice(&[u8::from(kind), high, middle, low]);
+}
+
+// The part that is lent for a page's data.
+// Kept: a loop over the places: of two slices that a function takes the compiler knows that they don't overlap, while the library's `copy_from_slice` makes the archive need `memmove` from outside.
+fn fill_page(part: &mut [u8], bytes: &[u8])
+    requires { length part.old ≡ length bytes.now }
+    ensures { part.new ≡ bytes.now }
+{
+    for q in 0..part.len() {
+        part[q] = bytes[q];
+    }
 }
 
 // None of the grounds of `Unfit`: a result of `res` bytes, both contents the whole chip's, and a status without other bits than 7, 3 and 2.

@@ -2,8 +2,10 @@
 // the call left is listed.
 #![tactic(auto)]
 
-ghost use Rattle.std.specs.Prelude.{◌≡◌, ◌≤◌, length, take, replicate};
+ghost use Rattle.std.specs.Prelude.{◌≡◌, ◌≤◌, length, take};
 ghost use Rattle.image.specs.Image.{image_of};
+ghost use Rattle.record.specs.Lengths.{replies_length, result_length};
+ghost use Rattle.times.specs.Times.{times_length};
 ghost use Rattle.printing.specs.Printed.{dump_of, dumps_of, Prints, PrintsPages};
 ghost use Rattle.printing.specs.Lending.{lent_for, LeftFor};
 
@@ -21,26 +23,22 @@ struct DumpImage<const N: usize> {
 }
 
 impl<const N: usize> DumpImage<N> {
-    // Without a dump all is 00 with mask ff. A dump is taken as sure: no bit is in doubt; of one of another length nothing is lent, and the call refuses that.
+    // A dump is taken as sure: no bit is in doubt; of one of another length nothing is lent, and the call refuses that. Without a dump the image stays.
+    // It is filled where it stands: given back by value it would be copied.
     #[tactic(auto, unfolding(crate::specs::Lending::lent_for))]
-    fn new(dump: Option<&[u8]>) -> DumpImage<N>
-        ensures { (result.len ≤ N) × (image_of (take result.len result.image) result.mask ≡ lent_for (dump_of dump.entry) (image_of (replicate N 0) (replicate N 255))) }
+    fn fill(&mut self, dump: Option<&[u8]>)
+        requires { self.old.len ≡ N }
+        ensures { (self.new.len ≤ N) × (image_of (take self.new.len self.new.image) self.new.mask ≡ lent_for (dump_of dump.entry) (image_of self.old.image self.old.mask)) }
     {
-        let mut lent = DumpImage {
-            image: [0; N],
-            mask: [255; N],
-            len: N,
-        };
         let Some(dump) = dump else {
-            return lent;
+            return;
         };
         if dump.len() != N {
-            lent.len = 0;
-            return lent;
+            self.len = 0;
+            return;
         }
-        lent.image.copy_from_slice(dump);
-        lent.mask.fill(0);
-        lent
+        self.image.copy_from_slice(dump);
+        self.mask.fill(0);
     }
 }
 
@@ -53,31 +51,35 @@ struct Left {
 }
 
 // Replays the text on the images of the dumps.
-fn replay(text: &[u8], flash: Option<&[u8]>, eeprom: Option<&[u8]>) -> Left
-    ensures { LeftFor text.now (dumps_of flash.entry eeprom.entry) result.times result.replies result.result }
+fn replay(text: &[u8], flash: Option<&[u8]>, eeprom: Option<&[u8]>, left: &mut Left)
+    requires { (length left.old.times ≡ times_length) × (length left.old.replies ≡ replies_length) × (length left.old.result ≡ result_length) }
+    ensures { LeftFor text.now (dumps_of flash.entry eeprom.entry) left.new.times left.new.replies left.new.result }
 {
-    let mut flash: DumpImage<{ image::FLASH_KEPT }> = DumpImage::new(flash);
-    let mut eeprom: DumpImage<{ image::EEPROM_KEPT }> = DumpImage::new(eeprom);
-    let flash_len = flash.len;
-    let eeprom_len = eeprom.len;
-    let mut times = [0u8; times::TIMES];
-    let mut replies = [0u8; record::REPLIES];
-    let mut result = [0u8; record::RESULT];
+    // Without a dump all is 00 with mask ff.
+    let mut flash_lent = DumpImage {
+        image: [0; image::FLASH_KEPT],
+        mask: [255; image::FLASH_KEPT],
+        len: image::FLASH_KEPT,
+    };
+    flash_lent.fill(flash);
+    let mut eeprom_lent = DumpImage {
+        image: [0; image::EEPROM_KEPT],
+        mask: [255; image::EEPROM_KEPT],
+        len: image::EEPROM_KEPT,
+    };
+    eeprom_lent.fill(eeprom);
+    let flash_len = flash_lent.len;
+    let eeprom_len = eeprom_lent.len;
     desk::hazelcrook_replay(
         text,
-        &mut flash.image[..flash_len],
-        &mut flash.mask,
-        &mut eeprom.image[..eeprom_len],
-        &mut eeprom.mask,
-        &mut times,
-        &mut replies,
-        &mut result,
+        &mut flash_lent.image[..flash_len],
+        &mut flash_lent.mask,
+        &mut eeprom_lent.image[..eeprom_len],
+        &mut eeprom_lent.mask,
+        &mut left.times,
+        &mut left.replies,
+        &mut left.result,
     );
-    Left {
-        times,
-        replies,
-        result,
-    }
 }
 
 // Replays the text on the images of the dumps, each there or not, and formats the listing into the output; its length.
@@ -90,7 +92,12 @@ pub fn print_replay(
     ensures printed { Prints text.now (dumps_of flash.entry eeprom.entry) out.old out.new result }
     ensures within { result ≤ length out.new }
 {
-    let left = replay(text, flash, eeprom);
+    let mut left = Left {
+        times: [0; times::TIMES],
+        replies: [0; record::REPLIES],
+        result: [0; record::RESULT],
+    };
+    replay(text, flash, eeprom, &mut left);
     listing::list(text, &left.replies, &left.result, out)
 }
 
@@ -104,6 +111,11 @@ pub fn print_pages(
     ensures printed { PrintsPages text.now (dumps_of flash.entry eeprom.entry) out.old out.new result }
     ensures within { result ≤ length out.new }
 {
-    let left = replay(text, flash, eeprom);
+    let mut left = Left {
+        times: [0; times::TIMES],
+        replies: [0; record::REPLIES],
+        result: [0; record::RESULT],
+    };
+    replay(text, flash, eeprom, &mut left);
     listing::list_pages(&left.times, &left.result, out)
 }

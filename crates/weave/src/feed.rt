@@ -58,23 +58,32 @@ impl Behind {
 impl Source for Behind {
     ghost feeds = { FeedsLevels };
 
-    // The next record of the capture.
+    // The next record of the capture. The parts of the place go on by themselves: put together for each line they would be copied for each.
     fn next(self, levels: &[u8]) -> LevelFeed {
-        let mut from = self;
-        'lines: while let Out::Nothing = from.more {
-            if levels.len() <= from.at {
+        let Behind {
+            mut at,
+            mut last,
+            mut bits,
+            mut more,
+        } = self;
+        'lines: while let Out::Nothing = more {
+            if levels.len() <= at {
                 return None;
             }
-            let (last, next) = level::read_level(levels, Cursor { at: from.at })?;
-            let turn = from.bits.turn(from.last, last);
-            from = Behind {
-                at: next.at,
-                last,
-                bits: turn.bits,
-                more: turn.out,
-            };
+            let (line, next) = level::read_level(levels, Cursor { at })?;
+            let turn = bits.turn(last, line);
+            at = next.at;
+            last = line;
+            bits = turn.bits;
+            more = turn.out;
         }
-        from.give()
+        Behind {
+            at,
+            last,
+            bits,
+            more,
+        }
+        .give()
     }
 }
 

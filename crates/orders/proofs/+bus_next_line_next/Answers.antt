@@ -2,7 +2,7 @@ use Rattle.std.proofs.Common.{ap, arith}
 use Rattle.law.specs.Deciding.{decides_true, decides_false}
 use Rattle.controls.specs.declared.Moved.{Moved}
 use Rattle.orders.proofs.Compared.{same_controls, same_reply, other_reply}
-use Rattle.orders.proofs.Stamp.{none_left, bus_fails, buses_left, both_left, lines_left, reply_first, after_bus, after_line, closing, meets, meets_on, meets_none, met}
+use Rattle.orders.proofs.Stamp.{none_left, bus_fails, buses_left, both_left, lines_left, reply_first, after_bus, after_line, closing_tied, meets_tied, meets_on, meets_none, met}
 use Rattle.orders.proofs.+bus_next_line_next.Goals as goal
 use Rattle.orders.proofs.+bus_next_line_next.Goals.{line_next-then-not-closes+else-not-bus_next, line_next-else-not-closes}
 
@@ -21,7 +21,7 @@ bus_next-returns-then-not-bus_next t c =
 
 pub bus_next-line_next-requires : goal.bus_next-line_next-requires
 bus_next-line_next-requires t c =
-    (omega arith, (omega arith, meets _ _ _ _ _ _ c.if-at-tied.true _ (omega arith) _ c.meeting-met.ensures (c.bus_next.ensures.holds c.if-not-bus_next.false)))
+    (omega arith, (omega arith, meets_tied _ _ _ _ _ _ c.if-at-tied.true _ (omega arith) _ c.meeting-met.ensures (c.bus_next.ensures.holds c.if-not-bus_next.false)))
 
 pub bus_next-returns-then-il-tied : goal.bus_next-returns-then-il-tied
 bus_next-returns-then-il-tied t c =
@@ -65,7 +65,7 @@ line_next-returns-then-at-tied t c =
     after_line _ _ _ _ _ _ _ (ap (λ (m : Moved). m.controls) c.play-step.ensures)
     (both_left _ _ _ _ _ _ c.if-ib-tied.true _ c.if-at-tied.true (elim c.if-not-closes.branch [
       | line_next-then-not-closes+else-not-bus_next w ↦ w.bus_next.ensures.holds w.if-not-bus_next.false
-      | line_next-else-not-closes w ↦ closing _ _ _ _ _ _ _ c.if-ib-tied.true _ (c.closes.ensures w.if-not-closes.false) (met _ _ _ _ _ c.requires.met c.if-ib-tied.true)
+      | line_next-else-not-closes w ↦ closing_tied _ _ _ _ _ _ _ c.if-ib-tied.true _ (c.closes.ensures w.if-not-closes.false) (met _ _ _ _ _ c.requires.met c.if-ib-tied.true)
     ]) c.line_next.ensures)
 
 pub line_next-returns-then-ib-tied : goal.line_next-returns-then-ib-tied
@@ -73,7 +73,7 @@ line_next-returns-then-ib-tied t c =
     after_line _ _ _ _ _ _ _ (ap (λ (m : Moved). m.controls) c.play-step.ensures)
     (decides_true (buses_left _ _ _ _ _ _ c.if-ib-tied.true c.if-at-tied.false (elim c.if-not-closes.branch [
       | line_next-then-not-closes+else-not-bus_next w ↦ w.bus_next.ensures.holds w.if-not-bus_next.false
-      | line_next-else-not-closes w ↦ closing _ _ _ _ _ _ _ c.if-ib-tied.true _ (c.closes.ensures w.if-not-closes.false) (met _ _ _ _ _ c.requires.met c.if-ib-tied.true)
+      | line_next-else-not-closes w ↦ closing_tied _ _ _ _ _ _ _ c.if-ib-tied.true _ (c.closes.ensures w.if-not-closes.false) (met _ _ _ _ _ c.requires.met c.if-ib-tied.true)
     ])))
 
 pub line_next-line_next-requires-then-at-tied-2 : goal.line_next-line_next-requires-then-at-tied-2

@@ -1,6 +1,6 @@
 use Rattle.std.proofs.Common.{arith}
 use Rattle.law.specs.Deciding.{decides_true, decides_false}
-use Rattle.orders.proofs.Stamp.{bus_fails, both_left, meets, settles, lineless, busless}
+use Rattle.orders.proofs.Stamp.{bus_fails, both_left, meets_tied, settles, lineless, busless}
 use Rattle.orders.proofs.tried.Goals as goal
 
 pub returns-then-tied-eq0 : goal.returns-then-tied-eq0
@@ -18,7 +18,7 @@ pub line_next-requires : goal.line_next-requires
 line_next-requires c =
     record {
       within = omega (arith, c.if-tied-eq0.false);
-      met = meets _ _ _ _ _ _ (omega (arith, c.if-tied-eq0-2.false)) _ (omega (arith, c.if-tied-eq0.false)) _ c.meeting-met.ensures (c.bus_next.ensures.holds c.if-not-bus_next.false);
+      met = meets_tied _ _ _ _ _ _ (omega (arith, c.if-tied-eq0-2.false)) _ (omega (arith, c.if-tied-eq0.false)) _ c.meeting-met.ensures (c.bus_next.ensures.holds c.if-not-bus_next.false);
     }
 
 pub returns : goal.returns
