@@ -6,7 +6,7 @@ ghost use Rattle.level.specs.Spelled.{ReadsLevel};
 use crate::{Level, Spi, Wires};
 use field::{Cursor, FieldEnd};
 
-// 0 or 1, and then the byte that ends the field; with the place after it. A call for each of seven flags of a line would cost a quarter of the line's reading.
+// 0 or 1, and then the byte that ends the field; with the place after it. A call for each of the seven flags of a line makes its reading a fifth longer.
 #[inline(always)]
 fn read_flag(text: &[u8], c: Cursor, end: u8) -> Option<(bool, Cursor)>
     ensures { ReadsFlag end text.now c.at result }
